@@ -28,3 +28,22 @@ opCoded code = nth ops code
 
 abbrev pub relationCoded : ℕ → Option Relation
 relationCoded code = nth relations code
+
+-- the code of each
+abbrev pub opCode : Op → ℕ
+opCode Add = 0
+opCode Sub = 1
+opCode Mul = 2
+opCode Div = 3
+opCode IsLess = 4
+opCode IsAtMost = 5
+opCode IsEqual = 6
+opCode IsUnequal = 7
+
+abbrev pub relationCode : Relation → ℕ
+relationCode Less = 0
+relationCode AtMost = 1
+relationCode Equal = 2
+relationCode Unequal = 3
+relationCode Greater = 4
+relationCode AtLeast = 5

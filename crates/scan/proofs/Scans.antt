@@ -12,14 +12,14 @@ use Rattle.std.proofs.shelf.Lists.{length-take-le}
 use Rattle.std.proofs.shelf.Tests.{cases-lt}
 use Rattle.std.specs.declared.result.Result.{Result}
 use Rattle.std.specs.declared.result.Result.the-variants.{Ok, Err}
-use Rattle.scan.specs.Scan.{andThen, Check, unless, upTo, chunk}
+use Rattle.scan.specs.Scan.{andThen, Check, unless, passed, upTo}
 
-abbrev cases : {E : Type 0} → Check E → Type 0 → Type 0 → Type 0
-cases (Ok x) P Q = P
-cases (Err e) P Q = Q
+abbrev wrong : {A E : Type 0} → Result A E → Type 0
+wrong (Ok x) = ⊥
+wrong (Err e) = Unit {0}
 
-ok-is-not-err : {E : Type 0} {e : E} → _≡_ {A = Check E} (Ok tt) (Err e) → ⊥
-ok-is-not-err {E} p = subst (λ (r : Check E). cases r (Unit {0}) ⊥) p tt
+pub err-is-not-ok : {A E : Type 0} {e : E} {x : A} → _≡_ {A = Result A E} (Err e) (Ok x) → ⊥
+err-is-not-ok {A} {E} p = subst (λ (r : Result A E). wrong r) p tt
 
 -- a check either passes or refuses
 pub decided : {E : Type 0} (c : Check E) → (c ≡ Ok tt) ⊎ ((e : E) × (c ≡ Err e))
@@ -46,7 +46,7 @@ module _ {E : Type 0} (f : ℕ → Check E) where
   parts-of : (n : ℕ) → upTo f (suc n) ≡ Ok tt → (upTo f n ≡ Ok tt) × (f n ≡ Ok tt)
   parts-of n all = ⊎-elim
       (λ (b : upTo f n ≡ Ok tt). (b, rw b at all))
-      (λ (b : (e : E) × (upTo f n ≡ Err e)). absurd (ok-is-not-err (sym (rw (b .1) at all))))
+      (λ (b : (e : E) × (upTo f n ≡ Err e)). absurd (err-is-not-ok (rw (b .1) at all)))
       (decided (upTo f n))
 
   -- a scan that passes has passed at each index
@@ -59,7 +59,7 @@ module _ {E : Type 0} (f : ℕ → Check E) where
 
   -- a scan that refuses does so at a first index: all below passed, and that one refuses
   pub up-first : (n : ℕ) (e : E) → upTo f n ≡ Err e → (i : ℕ) × (i < n) × (upTo f i ≡ Ok tt) × (f i ≡ Err e)
-  up-first zero e r = absurd (ok-is-not-err r)
+  up-first zero e r = absurd (err-is-not-ok (sym r))
   up-first (suc n) e r = ⊎-elim
       (λ (b : upTo f n ≡ Ok tt). (n, omega arith, b, rw b at r))
       (λ (b : (d : E) × (upTo f n ≡ Err d)).
@@ -76,4 +76,34 @@ up-same f g (suc n) same = rw (up-same f g n (λ i h. same i (omega arith)), sam
 -- a test that passed held, and one that refused did not
 pub held : {E : Type 0} (b : Bool) (e : E) → unless b e ≡ Ok tt → b ≡ true
 held true e p = refl
-held false e p = absurd (ok-is-not-err (sym p))
+held false e p = absurd (err-is-not-ok p)
+
+pub passes : {E : Type 0} (b : Bool) (e : E) → b ≡ true → unless b e ≡ Ok tt
+passes b e h = rw h refl
+
+pub refuses : {E : Type 0} (b : Bool) (e : E) → b ≡ false → unless b e ≡ Err e
+refuses b e h = rw h refl
+
+-- two checks in a row passed: so did each
+pub then-ok : {A B E : Type 0} (r : Result A E) (next : A → Result B E) (y : B) → andThen r next ≡ Ok y → (x : A) × (r ≡ Ok x) × (next x ≡ Ok y)
+then-ok (Ok x) next y e = (x, refl, e)
+then-ok (Err d) next y e = absurd (err-is-not-ok e)
+
+-- the same, for a chain of checks: go on with what the first found
+pub stage : {A B E P : Type 0} (r : Result A E) (next : A → Result B E) (y : B) → ((x : A) → r ≡ Ok x → next x ≡ Ok y → P) → andThen r next ≡ Ok y → P
+stage (Ok x) next y go e = go x refl e
+stage (Err d) next y go e = absurd (err-is-not-ok e)
+
+abbrev found : {A E : Type 0} → A → Result A E → A
+found d (Ok x) = x
+found d (Err e) = d
+
+pub ok-same : {A E : Type 0} {x y : A} → _≡_ {A = Result A E} (Ok x) (Ok y) → x ≡ y
+ok-same {x} e = ap (found x) e
+
+-- a check that is asked only whether it passes
+pub passed-ok : {A E : Type 0} (r : Result A E) (x : A) → Ok x ≡ r → passed r ≡ Ok tt
+passed-ok r x e = rw (← e) refl
+
+pub passed-err : {A E : Type 0} (r : Result A E) (d : E) → Err d ≡ r → passed r ≡ Err d
+passed-err r d e = rw (← e) refl

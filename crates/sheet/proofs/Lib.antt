@@ -1,0 +1,4 @@
+pub mod Formed
+pub mod Layouts
+pub mod Spelled
+pub mod Written

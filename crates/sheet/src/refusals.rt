@@ -1,0 +1,51 @@
+// Why a sheet or a call is refused: one case for each rule, in the order in which the rules are asked.
+ghost use mathlib.Core.Path.{_≡_};
+ghost use Rattle.sheet.specs.Refusals.{numbers};
+
+/// A refusal: which rule failed, and where.
+#[derive(Clone, Copy, PartialEq, Eq, Debug)]
+pub enum Refusal {
+    /// 1: the sheet has under 28 or over 1,048,576 bytes.
+    SheetSize,
+    /// 2: a byte of the head, 0 to 3, is wrong; the lowest such.
+    HeadByte { byte: usize },
+    /// 3: a part begins before the end of what precedes it, or ends past the sheet.
+    PartExtent { part: usize },
+    /// 4: the inputs part or the rows part is not as long as its records.
+    PartSize { part: usize },
+    /// 5: an input has an unknown kind, or its lo exceeds its hi.
+    InputRecord { input: usize },
+    /// 6: a byte of a row is wrong; the lowest such.
+    RowByte { place: usize, byte: usize },
+}
+
+/// A refusal as four numbers. What a refusal does not name is 0.
+#[derive(Clone, Copy, PartialEq, Eq, Debug)]
+pub struct Report {
+    pub number: usize,
+    pub place: usize,
+    pub way: usize,
+    pub variable: usize,
+}
+
+impl Refusal {
+    /// The number of the rule, with the place, the way and the variable.
+    pub fn report(self) -> Report
+        ensures { λ r. ⌜ r ≡ numbers self ⌝ }
+    {
+        let (number, place, way, variable) = match self {
+            Refusal::SheetSize => (1, 0, 0, 0),
+            Refusal::HeadByte { byte } => (2, byte, 0, 0),
+            Refusal::PartExtent { part } => (3, part, 0, 0),
+            Refusal::PartSize { part } => (4, part, 0, 0),
+            Refusal::InputRecord { input } => (5, input, 0, 0),
+            Refusal::RowByte { place, byte } => (6, place, byte, 0),
+        };
+        Report {
+            number,
+            place,
+            way,
+            variable,
+        }
+    }
+}
