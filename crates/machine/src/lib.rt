@@ -1,6 +1,8 @@
 // A routine: what its rows do and where its inputs come from.
 // A row's number, from 0, is its place; variables and inputs go by their numbers too.
 // A routine has 1 to 16 variables, 0 to 8 inputs and 1 to 256 places.
+mod words;
+
 use number::Op;
 use number::OpDebug;
 use number::OpEq;
@@ -9,6 +11,8 @@ use number::Relation;
 use number::RelationDebug;
 use number::RelationEq;
 use number::RelationPartialEq;
+pub use words::InputDisplay;
+pub use words::RowDisplay;
 
 /// The most variables, inputs and places that a routine may have.
 pub const MAX_VARIABLES: usize = 16;

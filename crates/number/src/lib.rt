@@ -4,6 +4,11 @@
 ghost use mathlib.Core.Path.{_≡_};
 ghost use Rattle.number.specs.Codes.{opCoded, relationCoded};
 
+mod signs;
+
+pub use signs::OpDisplay;
+pub use signs::RelationDisplay;
+
 /// An operation of a work row. The last four compare, and give 1 or 0.
 #[derive(Clone, Copy, PartialEq, Eq, Debug)]
 pub enum Op {

@@ -1,7 +1,7 @@
 -- A whole sheet: its layout, its inputs and its rows. Assumes nothing.
 use mathlib.Core.Path.{_≡_}
 use mathlib.Core.List.{List}
-use Prim.Native.Nat.{ℕ, _*_, _≤_}
+use Prim.Native.Nat.{ℕ, _+_, _*_, _≤_}
 use lib.ListN.{length}
 use Rattle.std.specs.declared.result.Result.{Result}
 use Rattle.std.specs.declared.result.Result.the-variants.{Ok}
@@ -24,3 +24,13 @@ pub record Fits (s : Parts) : Type 0 where
 -- a sheet as it is read: its parts, or the first rule that it breaks
 abbrev pub sheetOf : List ℕ → Result Parts Refusal
 sheetOf bs = andThen (partsOf bs) (λ s. andThen (inputsRight s) (λ _. andThen (rowsRight s) (λ _. Ok s)))
+
+-- the table has P entries, each a flag and V cells of w bytes, 1 to 64
+pub record Width (s : Parts) (w : ℕ) : Type 0 where
+  pub least : 1 ≤ w
+  pub most : w ≤ 64
+  pub whole : length (s .table .bytes) ≡ s .places * (1 + s .variables * w)
+
+-- it has none such, whatever the width
+abbrev pub NoWidth : Parts → Type 0
+NoWidth s = (w : ℕ) → Width s w → ⊥

@@ -6,6 +6,7 @@ mod parts;
 mod refusals;
 mod rows;
 mod views;
+mod words;
 
 pub use parts::Part;
 pub use refusals::Refusal;
@@ -17,3 +18,4 @@ pub use refusals::ReportDebug;
 pub use refusals::ReportEq;
 pub use refusals::ReportPartialEq;
 pub use views::Sheet;
+pub use words::RefusalDisplay;

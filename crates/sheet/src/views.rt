@@ -1,12 +1,13 @@
 // The view of a whole sheet.
 ghost use mathlib.Core.Path.{_≡_};
 ghost use Prim.Native.Nat.{_<_, _≤_};
+ghost use Rattle.std.specs.Options.{Cases};
 ghost use Rattle.std.specs.Vec.{made};
 ghost use Rattle.sheet.specs.Format.{WellFormed};
 ghost use Rattle.sheet.specs.Inputs.{inputAt, inputsRight};
 ghost use Rattle.sheet.specs.Parts.{Parts, partsOf, sizesRight};
 ghost use Rattle.sheet.specs.Rows.{rowAt, rowsRight};
-ghost use Rattle.sheet.specs.Sheets.{sheetOf, Fits};
+ghost use Rattle.sheet.specs.Sheets.{sheetOf, Fits, Width, NoWidth};
 ghost use Rattle.sheet.specs.Views.{seen, seenIn, region};
 use crate::inputs::read_input;
 use crate::parts::Part;
@@ -131,5 +132,19 @@ impl<'a> Sheet<'a> {
             place,
             piece(self.rows.bytes, 12, self.places, place),
         )
+    }
+
+    /// How many bytes a cell has, where the table is as long as a flag and a cell for each variable
+    /// at each place: from 1 to 64, and at most one such number.
+    pub fn cell_width(&self) -> Option<usize>
+        requires { ⌜ Fits (seen (now self)) ⌝ }
+        ensures { λ r. ⌜ Cases r (NoWidth (seen (now (self .entry)))) (Width (seen (now (self .entry)))) ⌝ }
+    {
+        for width in 1..=64 {
+            if self.table.bytes.len() == self.places * (1 + self.variables * width) {
+                return Some(width);
+            }
+        }
+        None
     }
 }
