@@ -6,19 +6,21 @@ pub impl fmt::Display for Refusal as RefusalDisplay {
     fn fmt<W: fmt::Write>(&self, f: &mut fmt::Formatter<W>) -> fmt::Result {
         match *self {
             Refusal::SheetSize => write!(f, "a sheet has 28 to 1048576 bytes"),
-            Refusal::HeadByte { byte } => write!(f, "byte {byte} of the head is wrong"),
-            Refusal::PartExtent { part } => {
-                write!(
-                    f,
-                    "part {part} begins before the end of what precedes it, or ends past the sheet"
-                )
-            }
-            Refusal::PartSize { part } => {
-                write!(
-                    f,
-                    "part {part} is not as long as its records: 9 bytes an input, 12 bytes a row, 1 to 256 rows"
-                )
-            }
+            Refusal::HeadByte { byte } => write!(
+                f,
+                "byte {byte} of the head is wrong: {}",
+                HeadRule(byte)
+            ),
+            Refusal::PartExtent { part } => write!(
+                f,
+                "the {} part begins before the end of what precedes it, or ends past the sheet",
+                PartName(part)
+            ),
+            Refusal::PartSize { part } => write!(
+                f,
+                "the {} part is not as long as its records: 9 bytes an input, 12 bytes a row, 1 to 256 rows",
+                PartName(part)
+            ),
             Refusal::InputRecord { input } => {
                 write!(
                     f,
@@ -27,8 +29,59 @@ pub impl fmt::Display for Refusal as RefusalDisplay {
             }
             Refusal::RowByte { place, byte } => write!(
                 f,
-                "byte {byte} of the row at {place} is wrong"
+                "byte {byte} of the row at {place} is wrong: it {}",
+                ByteRule(byte)
             ),
         }
+    }
+}
+
+// What a byte of the head has to be.
+#[derive(Drop)]
+struct HeadRule(usize);
+
+impl fmt::Display for HeadRule as HeadRuleDisplay {
+    fn fmt<W: fmt::Write>(&self, f: &mut fmt::Formatter<W>) -> fmt::Result {
+        let rule = match self.0 {
+            0 => "the version is 1",
+            1 => "there are 1 to 16 variables",
+            2 => "there are at most 8 inputs",
+            _ => "it is 0",
+        };
+        write!(f, "{rule}")
+    }
+}
+
+// The name of a part by its number.
+#[derive(Drop)]
+struct PartName(usize);
+
+impl fmt::Display for PartName as PartNameDisplay {
+    fn fmt<W: fmt::Write>(&self, f: &mut fmt::Formatter<W>) -> fmt::Result {
+        let name = match self.0 {
+            0 => "inputs",
+            1 => "rows",
+            _ => "table",
+        };
+        write!(f, "{name}")
+    }
+}
+
+// What a byte of a row says, where its kind uses it.
+#[derive(Drop)]
+struct ByteRule(usize);
+
+impl fmt::Display for ByteRule as ByteRuleDisplay {
+    fn fmt<W: fmt::Write>(&self, f: &mut fmt::Formatter<W>) -> fmt::Result {
+        let rule = match self.0 {
+            0 => "is a kind from 0 to 4",
+            1 => "names the variable that is set, or is 0",
+            2 => "names an operation, a relation or an input, or is 0",
+            3 | 4 => "names a variable, or is 0",
+            5 | 6 => "names a place, or is 0",
+            7 => "is 0",
+            _ => "is 0 unless the row puts an integer",
+        };
+        write!(f, "{rule}")
     }
 }
