@@ -107,3 +107,15 @@ passed-ok r x e = rw (← e) refl
 
 pub passed-err : {A E : Type 0} (r : Result A E) (d : E) → Err d ≡ r → passed r ≡ Err d
 passed-err r d e = rw (← e) refl
+
+-- the first check passes: the chain goes on with what it found
+pub then-on : {A B E : Type 0} (r : Result A E) (next : A → Result B E) (x : A) (z : Result B E) → r ≡ Ok x → next x ≡ z → andThen r next ≡ z
+then-on r next x z e k = rw e k
+
+always : {E : Type 0} (n : ℕ) → upTo {E = E} (λ _. Ok tt) n ≡ Ok tt
+always zero = refl
+always {E} (suc n) = rw (always {E = E} n) refl
+
+-- a scan that passes at each index passes
+pub up-all : {E : Type 0} (f : ℕ → Check E) (n : ℕ) → ((i : ℕ) → i < n → f i ≡ Ok tt) → upTo f n ≡ Ok tt
+up-all f n all = up-same f (λ _. Ok tt) n all ∙ always n

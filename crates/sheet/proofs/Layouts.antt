@@ -10,7 +10,7 @@ use Rattle.std.proofs.shelf.Tests.{leb-true, eqb-true, and-parts}
 use Rattle.std.specs.declared.result.Result.the-variants.{Ok}
 use Rattle.scan.specs.Scan.{andThen, unless}
 use Rattle.scan.proofs.Scans.{stage, ok-same, up-each, held}
-use Rattle.sheet.specs.Format.{Held, InOrder, Headed}
+use Rattle.sheet.specs.Format.{Held, InOrder, Headed, Given}
 use Rattle.sheet.specs.Parts.{Region, Parts, endOf, sizeRight, headByte, headRight, partOf, sizesRight, partsOf, offsetOf, lengthOf}
 use Rattle.sheet.specs.Sheets.{Fits}
 
@@ -40,21 +40,23 @@ head-bytes bs e =
     let b₃ = two-sided 0 (getD bs 3 0) 0 (held _ _ (at 3 (omega arith))) in
     record { version = omega arith; some = b₁ .0; variables = b₁ .1; inputs = b₂ .1; spare = omega arith }
 
--- an accepted part lies behind what precedes it, inside the sheet, and holds what the sheet holds there
-pub record Inside (bs : List ℕ) (before : ℕ) (p : Region) : Type 0 where
+-- an accepted part is the one that its pair gives, lies behind what precedes it, inside the sheet, and
+-- holds what the sheet holds there
+pub record Inside (bs : List ℕ) (i before : ℕ) (p : Region) : Type 0 where
+  pub given : Given bs i p
   pub behind : before ≤ p .at
   pub ends : endOf p ≤ length bs
   pub held : Held bs p
 
-part-inside : (bs : List ℕ) (i before : ℕ) (p : Region) → partOf bs i before ≡ Ok p → Inside bs before p
+part-inside : (bs : List ℕ) (i before : ℕ) (p : Region) → partOf bs i before ≡ Ok p → Inside bs i before p
 part-inside bs i before p e = stage
     (unless (leb before (offsetOf bs i) && leb (offsetOf bs i + lengthOf bs i) (length bs)) _) _ p
     (λ _ ok made.
     let both = and-parts (leb before (offsetOf bs i)) (leb (offsetOf bs i + lengthOf bs i) (length bs)) (held _ _ ok) in
     let ends : offsetOf bs i + lengthOf bs i ≤ length bs = leb-true _ _ (both .1) in
     let same : length (take (lengthOf bs i) (drop (offsetOf bs i) bs)) ≡ lengthOf bs i = simp (length-take, length-drop) (omega arith) in
-    subst (Inside bs before) (ok-same made)
-    (record { behind = leb-true _ _ (both .0); ends = rw same ends; held = rw same refl }))
+    subst (Inside bs i before) (ok-same made)
+    (record { given = (refl, sym same); behind = leb-true _ _ (both .0); ends = rw same ends; held = rw same refl }))
     e
 
 -- the lengths of the inputs part and the rows part
@@ -77,10 +79,20 @@ sizes-of k i r e = stage
 
 -- the layout that its parts make up
 together : (bs : List ℕ) (inputs rows table : Region) → (28 ≤ length bs) × (length bs ≤ 1048576) → HeadBytes bs
-    → Inside bs 28 inputs → Inside bs (endOf inputs) rows → Inside bs (endOf rows) table → Sized (getD bs 2 0) (inputs .bytes) (rows .bytes)
+    → Inside bs 0 28 inputs → Inside bs 1 (endOf inputs) rows → Inside bs 2 (endOf rows) table → Sized (getD bs 2 0) (inputs .bytes) (rows .bytes)
     → Laid bs (record { variables = getD bs 1 0; inputCount = getD bs 2 0; places = length (rows .bytes) / 12; inputs = inputs; rows = rows; table = table })
 together bs inputs rows table size head first second third sizes = record {
-  head = record { least = size .0; most = size .1; version = head .version; variables = refl; inputs = refl; spare = head .spare };
+  head = record {
+    least = size .0;
+    most = size .1;
+    version = head .version;
+    variables = refl;
+    inputs = refl;
+    spare = head .spare;
+    inputsGiven = first .given;
+    rowsGiven = second .given;
+    tableGiven = third .given;
+  };
   order = record {
     behindHead = first .behind;
     inputsFirst = second .behind;

@@ -1,3 +1,4 @@
+pub mod Accepted
 pub mod Formed
 pub mod Layouts
 pub mod Spelled

@@ -10,9 +10,10 @@ use lib.ListN.{length, getD, take, drop, length-take}
 use mir.Syntax.{w32}
 use mir.Val.{toZ, ofZ}
 use Rattle.std.proofs.shelf.Lists.{drop-all, drop-more, getD-take, getD-drop, getD-past}
-use Rattle.std.proofs.shelf.Signed.{ofZ-toZ}
+use Rattle.std.proofs.shelf.Signed.{ofZ-toZ, ints}
 use Rattle.std.proofs.shelf.Tests.{cases-lt}
 use Rattle.scan.specs.Scan.{chunk}
+use Rattle.number.specs.Exact.{Int32}
 use Rattle.sheet.specs.Bytes.{little}
 use Rattle.sheet.specs.Format.{integerBytes}
 
@@ -46,6 +47,10 @@ spelled-from xs (suc n) i e =
 pub spelled : (xs : List ℕ) (n : ℕ) → length xs ≡ n → xs ≡ spell xs 0 n
 spelled xs n e = spelled-from xs n 0 (omega arith)
 
+-- what four bytes say is an integer of 32 bits
+pub int32-of : (n : ℕ) → n < 4294967296 → Int32 (toZ w32 n)
+int32-of n h = record { low = omega (arith, ints); high = omega (arith, ints) }
+
 -- the digits of a number in base 256
 module _ (a b c d : ℕ) (ha : a < 256) (hb : b < 256) (hc : c < 256) (hd : d < 256) where
   digit-0 : little a b c d % 256 ≡ a
@@ -78,3 +83,6 @@ module _ (a b c d : ℕ) (ha : a < 256) (hb : b < 256) (hc : c < 256) (hd : d < 
   integer-written =
       let same : ofZ w32 (toZ w32 (little a b c d)) ≡ little a b c d = ofZ-toZ w32 (little a b c d) (omega arith) in
       rw (same, digit-0, digit-1, digit-2, digit-3) refl
+
+  pub integer-fits : Int32 (toZ w32 (little a b c d))
+  integer-fits = int32-of (little a b c d) (omega arith)

@@ -20,10 +20,10 @@ use Rattle.machine.specs.declared.InputKind.the-variants.{Reading, Setting}
 use Rattle.machine.specs.declared.Row.{Row}
 use Rattle.machine.specs.declared.Row.the-variants.{End, Put, Take, Work, Fork}
 use Rattle.sheet.specs.Bytes.{integerAt}
-use Rattle.sheet.specs.Format.{integerBytes, rowBytes, inputBytes, kindCode, Names}
+use Rattle.sheet.specs.Format.{integerBytes, rowBytes, inputBytes, kindCode, Names, Proper}
 use Rattle.sheet.specs.Inputs.{inputIn, inputOf}
 use Rattle.sheet.specs.Rows.{byKind, limits, rowByte, rowIn, rowOf}
-use Rattle.sheet.proofs.Spelled.{AllBytes, spelled, integer-written}
+use Rattle.sheet.proofs.Spelled.{AllBytes, spelled, integer-written, integer-fits}
 
 -- a code below 8 is that of its operation, and one below 6 that of its relation
 op-code : (c : ℕ) → c < 8 → opCode (valueOr (opCoded c) Add) ≡ c
@@ -115,7 +115,7 @@ module _ (v k p : ℕ) (bs : List ℕ) (long : length bs ≡ 12) (bytes : AllByt
       let e6 = z 6 (lit< tt) refl in
       let e7 = z 7 (lit< tt) refl in
       let n = integer-written (getD bs 8 0) (getD bs 9 0) (getD bs 10 0) (getD bs 11 0) (bytes 8) (bytes 9) (bytes 10) (bytes 11) in
-      (spelled bs 12 long ∙ rw (e, e2, e3, e4, e6, e7, n) refl, (below 1 (lit< tt), below 5 (lit< tt)))
+      (spelled bs 12 long ∙ rw (e, e2, e3, e4, e6, e7, n) refl, (below 1 (lit< tt), integer-fits (getD bs 8 0) (getD bs 9 0) (getD bs 10 0) (getD bs 11 0) (bytes 8) (bytes 9) (bytes 10) (bytes 11), below 5 (lit< tt)))
 
   take-case : Case 2
   take-case e below =
@@ -168,7 +168,7 @@ module _ (v k p : ℕ) (bs : List ℕ) (long : length bs ≡ 12) (bytes : AllByt
 
 -- the 9 bytes of an accepted input
 pub input-written : (i : ℕ) (bs : List ℕ) → length bs ≡ 9 → AllBytes bs → (n : Input) → inputOf i bs ≡ Ok n
-    → (bs ≡ inputBytes n) × (n .lo ≤ℤ n .hi)
+    → (bs ≡ inputBytes n) × Proper n
 input-written i bs long bytes n e = stage
     (unless (ltb (getD bs 0 0) 2 && leZ (integerAt bs 1) (integerAt bs 5)) _) _ n
     (λ _ right made.
@@ -177,7 +177,12 @@ input-written i bs long bytes n e = stage
     let hi = integer-written (getD bs 5 0) (getD bs 6 0) (getD bs 7 0) (getD bs 8 0) (bytes 5) (bytes 6) (bytes 7) (bytes 8) in
     let kind = ap (λ c. c ∷ (integerBytes (integerAt bs 1) ++ integerBytes (integerAt bs 5))) (kind-code (getD bs 0 0) (ltb-true _ _ (both .0))) in
     let written : bs ≡ inputBytes (inputIn bs) = spelled bs 9 long ∙ sym (kind ∙ ap₂ (λ xs ys. getD bs 0 0 ∷ (xs ++ ys)) lo hi) in
-    subst (λ (m : Input). (bs ≡ inputBytes m) × (m .lo ≤ℤ m .hi)) (ok-same made) (written, leZ-yes (subst T (sym (both .1)) tt)))
+    let proper : Proper (inputIn bs) = record {
+      lo = integer-fits (getD bs 1 0) (getD bs 2 0) (getD bs 3 0) (getD bs 4 0) (bytes 1) (bytes 2) (bytes 3) (bytes 4);
+      hi = integer-fits (getD bs 5 0) (getD bs 6 0) (getD bs 7 0) (getD bs 8 0) (bytes 5) (bytes 6) (bytes 7) (bytes 8);
+      some = leZ-yes (subst T (sym (both .1)) tt);
+    } in
+    subst (λ (m : Input). (bs ≡ inputBytes m) × Proper m) (ok-same made) (written, proper))
     e
   where
     kind-code : (c : ℕ) → c < 2 → kindCode (cond (eqb c 0) Reading Setting) ≡ c

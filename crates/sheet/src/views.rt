@@ -3,7 +3,7 @@ ghost use mathlib.Core.Path.{_≡_};
 ghost use Prim.Native.Nat.{_<_, _≤_};
 ghost use Rattle.std.specs.Options.{Cases};
 ghost use Rattle.std.specs.Vec.{made};
-ghost use Rattle.sheet.specs.Format.{WellFormed};
+ghost use Rattle.sheet.specs.Format.{Means};
 ghost use Rattle.sheet.specs.Inputs.{inputAt, inputsRight};
 ghost use Rattle.sheet.specs.Parts.{Parts, partsOf, sizesRight};
 ghost use Rattle.sheet.specs.Rows.{rowAt, rowsRight};
@@ -74,7 +74,14 @@ impl<'a> Sheet<'a> {
     /// Reads a sheet: its parts, or the first rule of format that it breaks.
     pub fn read(bytes: &'a [u8]) -> Result<Sheet<'a>, Refusal>
         ensures value { λ r. ⌜ seenIn r ≡ sheetOf (now (bytes .entry)) ⌝ }
-        ensures meaning { λ r. ⌜ made r (λ s. WellFormed (now (bytes .entry)) (seen s)) ⌝ }
+        ensures meaning { λ r. ⌜ Means (now (bytes .entry)) (seenIn r) ⌝ }
+    {
+        Sheet::checked(bytes)
+    }
+
+    // Lays out the parts, and reads every input and every row.
+    fn checked(bytes: &'a [u8]) -> Result<Sheet<'a>, Refusal>
+        ensures { λ r. ⌜ seenIn r ≡ sheetOf (now (bytes .entry)) ⌝ }
     {
         let sheet = Sheet::open(bytes)?;
         sheet.check_inputs()?;

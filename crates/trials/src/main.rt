@@ -64,7 +64,11 @@ fn with_edits(sheet: &Vec<u8>, heap: std::alloc::Global, words: &str) -> Result<
 }
 
 fn answer(rt: &LibcRuntime, edits: &str, sheet: &[u8]) -> Result<(), AnyError> {
-    let name = if edits.is_empty() { "as spelled" } else { edits };
+    let name = if edits.is_empty() {
+        "as spelled"
+    } else {
+        edits
+    };
     print!(rt, "{name}: ")?;
     match Sheet::read(sheet) {
         Ok(_) => println!(rt, "read")?,
