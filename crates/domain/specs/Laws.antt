@@ -1,6 +1,6 @@
 -- What makes the operations of a domain trustworthy: four laws that tie them to a meaning. Assumes nothing.
 -- The meaning says which integers a value describes. Every integer that a law speaks of is one of 32 bits.
-use mathlib.Core.Bool.{Bool, true, false}
+use mathlib.Core.Bool.{true, false}
 use mathlib.Core.List.{List, map}
 use mathlib.Core.Logic.{_≢_}
 use mathlib.Core.Path.{_≡_}
