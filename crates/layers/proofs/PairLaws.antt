@@ -58,7 +58,7 @@ pairWidth-small : (a b : ℕ) → pairWidth a b ≤ 64
 pairWidth-small a b = grind (arith, tells)
 
 -- a byte is below 256 if the byte of either case is
-pick-byte : (t : Bool) (x y : ℕ) → x < 256 → y < 256 → cond t x y < 256
+pub pick-byte : (t : Bool) (x y : ℕ) → x < 256 → y < 256 → cond t x y < 256
 pick-byte true x y h i = h
 pick-byte false x y h i = i
 
