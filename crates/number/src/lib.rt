@@ -3,6 +3,15 @@
 // The machine's step and every domain are stated over that one meaning.
 ghost use mathlib.Core.Path.{_≡_};
 ghost use Rattle.number.specs.Codes.{opCoded, relationCoded};
+ghost use Rattle.number.specs.Exact.{worked, holds, mirrored as mirroredRelation, opposite as oppositeRelation};
+
+mod wide;
+
+pub use wide::difference;
+pub use wide::fitted;
+pub use wide::product;
+pub use wide::sum;
+pub use wide::truth;
 
 /// An operation of a work row. The last four compare, and give 1 or 0.
 #[derive(Clone, Copy, PartialEq, Eq, Debug)]
@@ -52,6 +61,25 @@ impl Op {
             _ => None,
         }
     }
+
+    /// Works the operation on two integers: its result, or the trap.
+    /// The quotient drops the fraction, toward zero.
+    pub fn apply(self, a: i32, b: i32) -> Result<i32, Trap>
+        ensures { λ r. ⌜ r ≡ worked self a b ⌝ }
+    {
+        match self {
+            Op::Add => fitted(sum(a, b)),
+            Op::Sub => fitted(difference(a, b)),
+            Op::Mul => fitted(product(a, b)),
+            Op::Div if b == 0 => Err(Trap::Zero),
+            Op::Div if a == i32::MIN && b == -1 => Err(Trap::Range),
+            Op::Div => Ok(a / b),
+            Op::IsLess => Ok(truth(a < b)),
+            Op::IsAtMost => Ok(truth(a <= b)),
+            Op::IsEqual => Ok(truth(a == b)),
+            Op::IsUnequal => Ok(truth(a != b)),
+        }
+    }
 }
 
 impl Relation {
@@ -67,6 +95,48 @@ impl Relation {
             4 => Some(Relation::Greater),
             5 => Some(Relation::AtLeast),
             _ => None,
+        }
+    }
+
+    /// Whether the relation holds between two integers.
+    pub fn holds(self, a: i32, b: i32) -> bool
+        ensures { λ r. ⌜ r ≡ holds self a b ⌝ }
+    {
+        match self {
+            Relation::Less => a < b,
+            Relation::AtMost => a <= b,
+            Relation::Equal => a == b,
+            Relation::Unequal => a != b,
+            Relation::Greater => a > b,
+            Relation::AtLeast => a >= b,
+        }
+    }
+
+    /// The relation with its sides exchanged.
+    pub fn mirrored(self) -> Relation
+        ensures { λ r. ⌜ r ≡ mirroredRelation self ⌝ }
+    {
+        match self {
+            Relation::Less => Relation::Greater,
+            Relation::AtMost => Relation::AtLeast,
+            Relation::Equal => Relation::Equal,
+            Relation::Unequal => Relation::Unequal,
+            Relation::Greater => Relation::Less,
+            Relation::AtLeast => Relation::AtMost,
+        }
+    }
+
+    /// The relation that holds exactly where this one does not.
+    pub fn opposite(self) -> Relation
+        ensures { λ r. ⌜ r ≡ oppositeRelation self ⌝ }
+    {
+        match self {
+            Relation::Less => Relation::AtLeast,
+            Relation::AtMost => Relation::Greater,
+            Relation::Equal => Relation::Unequal,
+            Relation::Unequal => Relation::Equal,
+            Relation::Greater => Relation::AtMost,
+            Relation::AtLeast => Relation::Less,
         }
     }
 }
