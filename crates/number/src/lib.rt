@@ -2,8 +2,11 @@
 // and one meaning of both over the unbounded integers (specs/Exact.antt).
 // The machine's step and every domain are stated over that one meaning.
 ghost use mathlib.Core.Path.{_≡_};
+ghost use mathlib.Core.Bool.{true};
 ghost use Rattle.number.specs.Codes.{opCoded, relationCoded};
 ghost use Rattle.number.specs.Exact.{worked, holds, mirrored as mirroredRelation, opposite as oppositeRelation};
+ghost use Rattle.number.specs.Means.{Answers, Decodes, Mirrors, Opposes, Related, opCode, relationCode, Examples};
+ghost use Rattle.std.specs.Orderings.{Decides};
 
 mod wide;
 
@@ -47,7 +50,8 @@ pub enum Trap {
 impl Op {
     /// The operation of a code from 0 to 7.
     pub fn from_code(code: u8) -> Option<Op>
-        ensures { λ r. ⌜ r ≡ opCoded code ⌝ }
+        ensures value { λ r. ⌜ r ≡ opCoded code ⌝ }
+        ensures means { λ r. ⌜ Decodes opCode code r ⌝ }
     {
         match code {
             0 => Some(Op::Add),
@@ -65,7 +69,8 @@ impl Op {
     /// Works the operation on two integers: its result, or the trap.
     /// The quotient drops the fraction, toward zero.
     pub fn apply(self, a: i32, b: i32) -> Result<i32, Trap>
-        ensures { λ r. ⌜ r ≡ worked self a b ⌝ }
+        ensures value { λ r. ⌜ r ≡ worked self a b ⌝ }
+        ensures means { λ r. ⌜ Answers self a b r ⌝ }
     {
         match self {
             Op::Add => fitted(sum(a, b)),
@@ -85,7 +90,8 @@ impl Op {
 impl Relation {
     /// The relation of a code from 0 to 5.
     pub fn from_code(code: u8) -> Option<Relation>
-        ensures { λ r. ⌜ r ≡ relationCoded code ⌝ }
+        ensures value { λ r. ⌜ r ≡ relationCoded code ⌝ }
+        ensures means { λ r. ⌜ Decodes relationCode code r ⌝ }
     {
         match code {
             0 => Some(Relation::Less),
@@ -100,7 +106,8 @@ impl Relation {
 
     /// Whether the relation holds between two integers.
     pub fn holds(self, a: i32, b: i32) -> bool
-        ensures { λ r. ⌜ r ≡ holds self a b ⌝ }
+        ensures value { λ r. ⌜ r ≡ holds self a b ⌝ }
+        ensures means { λ r. ⌜ Decides r (Related self a b) ⌝ }
     {
         match self {
             Relation::Less => a < b,
@@ -114,7 +121,8 @@ impl Relation {
 
     /// The relation with its sides exchanged.
     pub fn mirrored(self) -> Relation
-        ensures { λ r. ⌜ r ≡ mirroredRelation self ⌝ }
+        ensures value { λ r. ⌜ r ≡ mirroredRelation self ⌝ }
+        ensures means { λ r. ⌜ Mirrors self r ⌝ }
     {
         match self {
             Relation::Less => Relation::Greater,
@@ -128,7 +136,8 @@ impl Relation {
 
     /// The relation that holds exactly where this one does not.
     pub fn opposite(self) -> Relation
-        ensures { λ r. ⌜ r ≡ oppositeRelation self ⌝ }
+        ensures value { λ r. ⌜ r ≡ oppositeRelation self ⌝ }
+        ensures means { λ r. ⌜ Opposes self r ⌝ }
     {
         match self {
             Relation::Less => Relation::AtLeast,
@@ -139,4 +148,14 @@ impl Relation {
             Relation::AtLeast => Relation::Less,
         }
     }
+}
+
+/// Works a few operations, and says whether each gave what it should: 7 ÷ −2 is −3, −2^31 ÷ −1 a range trap, and 1 ÷ 0 a zero trap.
+pub fn examples_hold() -> bool
+    ensures answers { λ r. ⌜ r ≡ true ⌝ }
+    ensures means { λ _. ⌜ Examples ⌝ }
+{
+    Op::Div.apply(7, -2) == Ok(-3)
+        && Op::Div.apply(i32::MIN, -1) == Err(Trap::Range)
+        && Op::Div.apply(1, 0) == Err(Trap::Zero)
 }
