@@ -4,7 +4,7 @@
 ghost use mathlib.Core.Path.{_≡_};
 ghost use mathlib.Core.Bool.{true};
 ghost use Rattle.number.specs.Codes.{opCoded, relationCoded};
-ghost use Rattle.number.specs.Exact.{worked, holds, mirrored as mirroredRelation, opposite as oppositeRelation};
+ghost use Rattle.number.specs.Exact.{exact, worked, holds, mirrored as mirroredRelation, opposite as oppositeRelation};
 ghost use Rattle.number.specs.Means.{Answers, Decodes, Mirrors, Opposes, Related, opCode, relationCode, Examples};
 ghost use Rattle.std.specs.Orderings.{Decides};
 
@@ -13,6 +13,7 @@ mod wide;
 pub use wide::difference;
 pub use wide::fitted;
 pub use wide::product;
+pub use wide::quotient;
 pub use wide::sum;
 pub use wide::truth;
 
@@ -63,6 +64,22 @@ impl Op {
             6 => Some(Op::IsEqual),
             7 => Some(Op::IsUnequal),
             _ => None,
+        }
+    }
+
+    /// What the operation gives before its range is looked at; a quotient by 0 means nothing, and is 0.
+    pub fn exact(self, a: i32, b: i32) -> i64
+        ensures { λ r. ⌜ r ≡ exact self a b ⌝ }
+    {
+        match self {
+            Op::Add => sum(a, b),
+            Op::Sub => difference(a, b),
+            Op::Mul => product(a, b),
+            Op::Div => quotient(a, b),
+            Op::IsLess => truth(a < b) as i64,
+            Op::IsAtMost => truth(a <= b) as i64,
+            Op::IsEqual => truth(a == b) as i64,
+            Op::IsUnequal => truth(a != b) as i64,
         }
     }
 

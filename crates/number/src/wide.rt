@@ -1,6 +1,7 @@
 // Results of 32-bit integers before their range is looked at: none of these can overflow in 64 bits.
 ghost use mathlib.Core.Path.{_≡_};
 ghost use lib.IntN.{_+ℤ_, _-ℤ_, _*ℤ_};
+ghost use lib.Signed.{quotZ};
 ghost use Rattle.number.specs.Exact.{inRange, truth as truthOf};
 use crate::Trap;
 
@@ -22,6 +23,13 @@ pub fn product(a: i32, b: i32) -> i64
     a as i64 * b as i64
 }
 
+/// Toward zero; by 0 it means nothing, and is 0.
+pub fn quotient(a: i32, b: i32) -> i64
+    ensures { λ r. ⌜ r ≡ quotZ a b ⌝ }
+{
+    if b == 0 { 0 } else { a as i64 / b as i64 }
+}
+
 /// The integer as one of 32 bits, or the range trap.
 pub fn fitted(z: i64) -> Result<i32, Trap>
     ensures { λ r. ⌜ r ≡ inRange z ⌝ }
@@ -34,8 +42,8 @@ pub fn fitted(z: i64) -> Result<i32, Trap>
 }
 
 /// 1 where a comparison holds, else 0.
-pub fn truth(holds: bool) -> i32
-    ensures { λ r. ⌜ r ≡ truthOf holds ⌝ }
+pub fn truth(test: bool) -> i32
+    ensures { λ r. ⌜ r ≡ truthOf test ⌝ }
 {
-    if holds { 1 } else { 0 }
+    if test { 1 } else { 0 }
 }
