@@ -1,0 +1,96 @@
+// Making strides, and working the operations on their moduli and remainders.
+ghost use mathlib.Core.Path.{_≡_};
+ghost use Prim.Native.Nat.{_<_};
+ghost use Rattle.number.specs.Exact.{worked};
+ghost use Rattle.stride.specs.Strides.{made, anything, strided as stridedOf, constants, moved as movedTo, steps};
+use super::divisors::reduced;
+use super::value::Stride;
+use number::Op;
+use number::Trap;
+use number::difference;
+use number::product;
+use number::sum;
+
+impl Stride {
+    /// The stride of a modulus and a remainder, if they fit together.
+    pub fn new(modulus: u16, remainder: i32) -> Option<Stride>
+        ensures { λ r. ⌜ r ≡ made modulus remainder ⌝ }
+    {
+        let reduced = (0 <= remainder) & (remainder < modulus as i32);
+        if modulus == 0 || reduced {
+            return Some(Stride { modulus, remainder });
+        }
+        None
+    }
+
+    /// The modulus; 0 where the stride is constant.
+    pub fn modulus(&self) -> u16
+        ensures { λ r. ⌜ r ≡ now (self .entry) .modulus ⌝ }
+    {
+        self.modulus
+    }
+
+    /// The remainder.
+    pub fn remainder(&self) -> i32
+        ensures { λ r. ⌜ r ≡ now (self .entry) .remainder ⌝ }
+    {
+        self.remainder
+    }
+
+    /// The stride that describes every integer.
+    pub(crate) fn whole() -> Stride
+        ensures { λ r. ⌜ r ≡ anything ⌝ }
+    {
+        Stride {
+            modulus: 1,
+            remainder: 0,
+        }
+    }
+
+    /// The stride of a modulus and a remainder that are known to fit together.
+    pub(crate) fn strided(modulus: u16, remainder: i32) -> Stride
+        ensures { λ r. ⌜ r ≡ stridedOf modulus remainder ⌝ }
+    {
+        match Stride::new(modulus, remainder) {
+            Some(stride) => stride,
+            None => Stride::whole(),
+        }
+    }
+}
+
+/// Two constants are worked exactly, and warn exactly where they trap.
+pub fn work_constants(op: Op, a: i32, b: i32) -> (Stride, bool, bool)
+    ensures { λ r. ⌜ r ≡ constants (worked op a b) ⌝ }
+{
+    match op.apply(a, b) {
+        Ok(exact) => (Stride::strided(0, exact), false, false),
+        Err(Trap::Zero) => (Stride::whole(), true, false),
+        Err(Trap::Range) => (Stride::whole(), false, true),
+    }
+}
+
+/// The stride of the integers that differ from `exact` by a multiple of `modulus`, with the range warning.
+fn moved(modulus: u16, exact: i64) -> (Stride, bool, bool)
+    requires { ⌜ 0 < modulus ⌝ }
+    ensures { λ r. ⌜ r ≡ movedTo modulus exact ⌝ }
+{
+    (
+        Stride::strided(modulus, reduced(exact, modulus)),
+        false,
+        true,
+    )
+}
+
+/// The operation on strides with the remainders `a` and `b`, whose moduli have the greatest common divisor `gcd`.
+pub fn work_moving(op: Op, gcd: u16, a: i32, b: i32) -> (Stride, bool, bool)
+    requires { ⌜ 0 < gcd ⌝ }
+    ensures { λ r. ⌜ r ≡ steps op gcd a b ⌝ }
+{
+    match op {
+        Op::Add => moved(gcd, sum(a, b)),
+        Op::Sub => moved(gcd, difference(a, b)),
+        Op::Mul => moved(gcd, product(a, b)),
+        Op::Div => (Stride::whole(), b == 0, true),
+        _ => (Stride::whole(), false, false),
+    }
+}
