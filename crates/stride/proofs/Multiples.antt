@@ -10,7 +10,7 @@ use Rattle.std.proofs.shelf.Signed.{ints}
 use Rattle.std.proofs.shelf.Tests.{eqb-true, eq-eqb, cases-eq}
 use Rattle.arith.specs.Residues.{Congruent, gcd}
 use Rattle.arith.proofs.Products.{times-neg}
-use Rattle.arith.proofs.Remainders.{gcd-divides-left, gcd-divides-right}
+use Rattle.arith.proofs.Remainders.{gcd-divides-left, gcd-divides-right, gcd-greatest as every-divides}
 use Rattle.stride.specs.Divisors.{isMultiple, Greatest}
 
 pub multiple-divides : (d n : ℕ) → isMultiple d n ≡ true → d ∣ n

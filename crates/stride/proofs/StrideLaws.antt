@@ -1,5 +1,5 @@
 -- Strides keep the laws of a domain. Assumes nothing.
-use mathlib.Core.Bool.{Bool, true, false, cond, not, _&&_}
+use mathlib.Core.Bool.{Bool, true, false, cond, not, _&&_, _||_}
 use mathlib.Core.Logic.{_≢_, ⊎-elim}
 use mathlib.Core.Path.{_≡_, refl, sym, ap, ap₂, subst, _∙_}
 use Prim.Native.Nat.{ℕ, zero, _<_}
@@ -105,26 +105,31 @@ only-remainder m x r z (k, e) = e ∙ ap (λ n. r +ℤ (pos n *ℤ k)) z ∙ not
     nothing-more r k = omega (arith, ints)
 
 -- the two warnings on constants are the two traps
-constants-zero : (zero late : Bool) (v : ℤ) → constants (orElse zero Zero (orElse late Range (Ok v))) .1 ≡ zero
+pub constants-zero : (zero late : Bool) (v : ℤ) → constants (orElse zero Zero (orElse late Range (Ok v))) .1 ≡ zero
 constants-zero true late v = refl
 constants-zero false true v = refl
 constants-zero false false v = refl
 
-constants-range : (zero late : Bool) (v : ℤ) → constants (orElse zero Zero (orElse (not zero && late) Range (Ok v))) .2 ≡ (not zero && late)
+pub constants-range : (zero late : Bool) (v : ℤ) → constants (orElse zero Zero (orElse (not zero && late) Range (Ok v))) .2 ≡ (not zero && late)
 constants-range true late v = refl
 constants-range false true v = refl
 constants-range false false v = refl
 
-constants-value : (zero late : Bool) (v : ℤ) → zero ≡ false → late ≡ false → constants (orElse zero Zero (orElse late Range (Ok v))) .0 ≡ strided 0 v
+pub constants-value : (zero late : Bool) (v : ℤ) → zero ≡ false → late ≡ false → constants (orElse zero Zero (orElse late Range (Ok v))) .0 ≡ strided 0 v
 constants-value true late v h i = absurd (true≢false h)
 constants-value false true v h i = absurd (true≢false i)
 constants-value false false v h i = refl
+
+pub constants-warned : (zero late : Bool) (v : ℤ) → (zero || late) ≡ true → constants (orElse zero Zero (orElse late Range (Ok v))) .0 ≡ anything
+constants-warned true late v h = refl
+constants-warned false true v h = refl
+constants-warned false false v h = absurd (false≢true h)
 
 truth-fits : (t : Bool) → fits32 (truth t) ≡ true
 truth-fits true = refl
 truth-fits false = refl
 
-fits-exact : (op : Op) (x y : ℤ) → zeroTrap op x y ≡ false → rangeTrap op x y ≡ false → fits32 (exact op x y) ≡ true
+pub fits-exact : (op : Op) (x y : ℤ) → zeroTrap op x y ≡ false → rangeTrap op x y ≡ false → fits32 (exact op x y) ≡ true
 fits-exact op x y h i = ⊎-elim (λ e. absurd (both-ways _ e (not-from-false _ h))) (λ e. not-false _ e) (and-cases (not (zeroTrap op x y)) (not (fits32 (exact op x y))) i)
 
 ne-test : (z : ℤ) → z ≢ pos 0 → eqZ z (pos 0) ≡ false
@@ -260,10 +265,10 @@ stride-narrowing = record { kept = kept }
 kept-bits : (s : Stride) → toZ w32 (ofZ w32 (s .remainder)) ≡ s .remainder
 kept-bits s = toZ-ofZ w32 (s .remainder) (width-of-int32 (stride-facts s .int32))
 
+pub not-constants : (a b : Stride) → (a .modulus ≡ 0 → b .modulus ≡ 0 → ⊥) → (constant a && constant b) ≡ false
+not-constants a b h = ⊎-elim (λ t. absurd (h (both-constant a b t .0) (both-constant a b t .1))) (λ t. t) (cases-bool (constant a && constant b))
+
 pub moving : (op : Op) (a b : Stride) (g : ℕ) → g ≡ gcd (a .modulus) (b .modulus) → (a .modulus ≡ 0 → b .modulus ≡ 0 → ⊥) → steps op g (toZ w32 (ofZ w32 (a .remainder))) (toZ w32 (ofZ w32 (b .remainder))) ≡ works op a b
 moving op a b g e more =
     ap₂ (steps op g) (kept-bits a) (kept-bits b) ∙ ap (λ n. steps op n (a .remainder) (b .remainder)) e
-    ∙ sym (cond-false _ _ _ (ne-both more))
-  where
-    ne-both : (a .modulus ≡ 0 → b .modulus ≡ 0 → ⊥) → (constant a && constant b) ≡ false
-    ne-both h = ⊎-elim (λ t. absurd (h (both-constant a b t .0) (both-constant a b t .1))) (λ t. t) (cases-bool (constant a && constant b))
+    ∙ sym (cond-false _ _ _ (not-constants a b more))
