@@ -1,30 +1,25 @@
 -- The answers of strides mean what the rules say. Assumes nothing.
-use mathlib.Core.Bool.{Bool, true, false, cond, not, _&&_, _||_}
-use mathlib.Core.Logic.{_⊎_, inl, inr, ⊎-elim}
-use mathlib.Core.Path.{_≡_, refl, sym, ap, ap₂, subst, _∙_}
-use Prim.Native.Nat.{ℕ, _≤_, _<_, _∣_}
+use mathlib.Core.Bool.{true, false, not}
+use mathlib.Core.Logic.{⊎-elim}
+use mathlib.Core.Path.{_≡_, refl, sym, ap, subst, _∙_}
+use Prim.Native.Nat.{ℕ, _<_, _∣_}
 use native.Mathlib.Nat.{dvd-zero}
 use native.Mathlib.Omega.{arith}
-use lib.Dec.{eqb}
-use lib.IntN.{ℤ, pos, negsuc, natAbs, _+ℤ_, _-ℤ_, _*ℤ_}
-use lib.Signed.{_≤ℤ_, _<ℤ_}
+use lib.IntN.{ℤ, pos, natAbs, _+ℤ_, _-ℤ_}
 use Rattle.std.specs.Numbers.{remEuclid}
 use Rattle.std.specs.Orderings.{Decides}
-use Rattle.std.specs.declared.result.Result.the-variants.{Ok, Err}
 use Rattle.std.proofs.shelf.Signed.{ints}
-use Rattle.std.proofs.shelf.Tests.{true≢false, false≢true, and-from, eq-eqb, cases-eq, cond-true, cond-false, cases-bool, or-cases, both-ways}
-use Rattle.number.specs.Exact.{Int32, eqZ, exact, zeroTrap, rangeTrap, worked, orElse, fits32}
+use Rattle.std.proofs.shelf.Tests.{and-from, eq-eqb, cases-eq, cond-true, cond-false, cases-bool}
+use Rattle.number.specs.Exact.{Int32, eqZ, exact, zeroTrap, rangeTrap, worked, fits32}
 use Rattle.number.specs.declared.Op.{Op}
 use Rattle.number.specs.declared.Op.the-variants.{Add, Sub, Mul, Div, IsLess, IsAtMost, IsEqual, IsUnequal}
-use Rattle.number.specs.declared.Trap.the-variants.{Zero, Range}
 use Rattle.number.proofs.Order.{eq-from-test, test-from-eq}
 use Rattle.arith.specs.Residues.{Congruent, gcd, gcdWithin}
 use Rattle.arith.proofs.Remainders.{congruent-refl, congruent-sym, congruent-trans, remainder-congruent, remainder-below}
 use Rattle.stride.specs.declared.value.Stride.{Stride}
-use Rattle.stride.specs.Divisors.{isMultiple, Greatest}
 use Rattle.stride.specs.Fitting.{fitting}
-use Rattle.stride.specs.Strides.{describes, made, anything, strided, constant, covers, value, constants, moved, steps, works, narrows}
-use Rattle.stride.specs.Rules.{NoMore, Spans, Exactly, Moves, Gives, Works, Examples}
+use Rattle.stride.specs.Strides.{describes, made, anything, strided, covers, value, constants, moved, steps, works}
+use Rattle.stride.specs.Rules.{NoMore, FromTo, Exactly, Moves, Gives, Works, Examples}
 use Rattle.stride.proofs.Multiples.{divides-multiple, congruent-to, gcd-positive, gcd-small, gcd-greatest}
 use Rattle.stride.proofs.Made.{stride-facts, fitting-constant, fitting-moving, strided-fits}
 use Rattle.stride.proofs.StrideLaws.{covers-sound, constants-zero, constants-range, constants-value, fits-exact, constants-warned, not-constants}
@@ -41,8 +36,10 @@ covers-complete a b h = and-from _ _ (divides-multiple (a .modulus) (b .modulus)
   where
     here : describes a (b .remainder)
     here = h (b .remainder) (stride-facts b .int32) (congruent-refl (b .modulus) (b .remainder))
+
     none : b .modulus ≡ 0 → a .modulus ∣ b .modulus
     none z = subst (λ n. a .modulus ∣ n) (sym z) (dvd-zero (a .modulus))
+
     some : (b .modulus ≡ 0 → ⊥) → a .modulus ∣ b .modulus
     some z =
         let f = stride-facts b in
@@ -53,31 +50,31 @@ covers-complete a b h = and-from _ _ (divides-multiple (a .modulus) (b .modulus)
         let next : Int32 (b .remainder +ℤ pos (b .modulus)) = record { low = omega (arith, ints, l); high = omega (arith, ints, u, s) } in
         let there = h (b .remainder +ℤ pos (b .modulus)) next (next-described (b .modulus) (b .remainder)) in
         subst (λ n. a .modulus ∣ n) (ap natAbs (step-back (b .remainder) (b .modulus)))
-            (congruent-to (a .modulus) (b .remainder +ℤ pos (b .modulus)) (b .remainder) (congruent-trans (a .modulus) (b .remainder +ℤ pos (b .modulus)) (a .remainder) (b .remainder) there (congruent-sym (a .modulus) (b .remainder) (a .remainder) here)))
+        (congruent-to (a .modulus) (b .remainder +ℤ pos (b .modulus)) (b .remainder) (congruent-trans (a .modulus) (b .remainder +ℤ pos (b .modulus)) (a .remainder) (b .remainder) there (congruent-sym (a .modulus) (b .remainder) (a .remainder) here)))
 
 pub covers-exactly : (a b : Stride) → Decides (covers a b) (NoMore b a)
 covers-exactly a b = (λ e z _ d. covers-sound a b e z d, covers-complete a b)
 
 -- values of a range
-pub value-spans : (lo hi : ℤ) → Int32 lo → Spans lo hi (value lo hi)
-value-spans lo hi h = record
-  { modulus = λ e. ap (λ s. s .modulus) (one e)
-  ; remainder = λ e. ap (λ s. s .remainder) (one e)
-  ; more = λ e. cond-false _ _ _ (⊎-elim (λ t. absurd (e (eq-from-test t))) (λ t. t) (cases-bool (eqZ lo hi)))
-  }
+pub value-from-to : (lo hi : ℤ) → Int32 lo → FromTo lo hi (value lo hi)
+value-from-to lo hi h = record {
+  modulus = λ e. ap (λ s. s .modulus) (one e);
+  remainder = λ e. ap (λ s. s .remainder) (one e);
+  more = λ e. cond-false _ _ _ (⊎-elim (λ t. absurd (e (eq-from-test t))) (λ t. t) (cases-bool (eqZ lo hi)));
+}
   where
     one : lo ≡ hi → value lo hi ≡ record { modulus = 0; remainder = lo; fits = fitting-constant lo h }
     one e = cond-true _ (strided 0 lo) anything (test-from-eq e) ∙ strided-fits 0 lo (fitting-constant lo h)
 
 -- working
 exactly : (op : Op) (r s : ℤ) → Exactly op r s (constants (worked op r s))
-exactly op r s = record
-  { zero = constants-zero (zeroTrap op r s) (rangeTrap op r s) (exact op r s)
-  ; range = constants-range (zeroTrap op r s) (not (fits32 (exact op r s))) (exact op r s)
-  ; modulus = λ h i. ap (λ v. v .modulus) (result h i)
-  ; remainder = λ h i. ap (λ v. v .remainder) (result h i)
-  ; warned = λ t. constants-warned (zeroTrap op r s) (rangeTrap op r s) (exact op r s) t
-  }
+exactly op r s = record {
+  zero = constants-zero (zeroTrap op r s) (rangeTrap op r s) (exact op r s);
+  range = constants-range (zeroTrap op r s) (not (fits32 (exact op r s))) (exact op r s);
+  modulus = λ h i. ap (λ v. v .modulus) (result h i);
+  remainder = λ h i. ap (λ v. v .remainder) (result h i);
+  warned = λ t. constants-warned (zeroTrap op r s) (rangeTrap op r s) (exact op r s) t;
+}
   where
     result : (h : zeroTrap op r s ≡ false) (i : rangeTrap op r s ≡ false) → constants (worked op r s) .0 ≡ record { modulus = 0; remainder = exact op r s; fits = fits-exact op r s h i }
     result h i = constants-value (zeroTrap op r s) (rangeTrap op r s) (exact op r s) h i ∙ strided-fits 0 (exact op r s) (fits-exact op r s h i)
@@ -91,7 +88,7 @@ module _ (a b : Stride) (more : a .modulus ≡ 0 → b .modulus ≡ 0 → ⊥) w
       let s = remainder-below (gcd m n) z p in
       let fit : fitting (gcd m n) (remEuclid z (pos (gcd m n))) ≡ true = fitting-moving (gcd m n) (remEuclid z (pos (gcd m n))) (gcd-small m n more 65535 (stride-facts a .small) (stride-facts b .small)) p (s .0) (s .1) in
       subst (λ v. Moves m n z (v, false, true)) (sym (strided-fits (gcd m n) (remEuclid z (pos (gcd m n))) fit))
-          (record { modulus = gcd-greatest m n; remainder = remainder-congruent (gcd m n) z p; low = s .0; high = s .1; zero = refl; range = refl })
+      (record { modulus = gcd-greatest m n; remainder = remainder-congruent (gcd m n) z p; low = s .0; high = s .1; zero = refl; range = refl })
 
   gives : (op : Op) → Gives op a b (steps op (gcd (a .modulus) (b .modulus)) (a .remainder) (b .remainder))
   gives Add = moves _
@@ -104,10 +101,10 @@ module _ (a b : Stride) (more : a .modulus ≡ 0 → b .modulus ≡ 0 → ⊥) w
   gives IsUnequal = refl
 
 pub works-means : (op : Op) (a b : Stride) → Works op a b (works op a b)
-works-means op a b = record
-  { constants = λ h i. subst (Exactly op (a .remainder) (b .remainder)) (sym (cond-true _ _ _ (and-from _ _ (eq-eqb (a .modulus) 0 h) (eq-eqb (b .modulus) 0 i)))) (exactly op (a .remainder) (b .remainder))
-  ; otherwise = λ more. subst (Gives op a b) (sym (cond-false _ _ _ (not-constants a b more))) (gives a b more op)
-  }
+works-means op a b = record {
+  constants = λ h i. subst (Exactly op (a .remainder) (b .remainder)) (sym (cond-true _ _ _ (and-from _ _ (eq-eqb (a .modulus) 0 h) (eq-eqb (b .modulus) 0 i)))) (exactly op (a .remainder) (b .remainder));
+  otherwise = λ more. subst (Gives op a b) (sym (cond-false _ _ _ (not-constants a b more))) (gives a b more op);
+}
 
 pub examples : Examples
 unfolding made gcd gcdWithin

@@ -4,7 +4,6 @@ use mathlib.Core.Path.{_≡_}
 use Prim.Native.Nat.{ℕ}
 use lib.IntN.{ℤ, pos, negsuc, _+ℤ_, _-ℤ_, _*ℤ_}
 use lib.Signed.{_≤ℤ_, _<ℤ_}
-use Rattle.std.specs.declared.option.Option.{Option}
 use Rattle.std.specs.declared.option.Option.the-variants.{Some, None}
 use Rattle.number.specs.Exact.{Int32, eqZ, exact, zeroTrap, rangeTrap}
 use Rattle.number.specs.declared.Op.{Op}
@@ -20,7 +19,7 @@ abbrev pub NoMore : Stride → Stride → Type 0
 NoMore b a = (z : ℤ) → Int32 z → describes b z → describes a z
 
 -- one integer is constant, and more are anything
-pub record Spans (lo hi : ℤ) (s : Stride) : Type 0 where
+pub record FromTo (lo hi : ℤ) (s : Stride) : Type 0 where
   pub modulus : lo ≡ hi → s .modulus ≡ 0
   pub remainder : lo ≡ hi → s .remainder ≡ lo
   pub more : (lo ≡ hi → ⊥) → s ≡ anything

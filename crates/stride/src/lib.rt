@@ -6,15 +6,16 @@ mod working;
 
 pub use value::Stride;
 ghost use mathlib.Core.Path.{_≡_};
-ghost use lib.IntN.{ℤ};
+ghost use mathlib.Core.Bool.{true, false};
+ghost use lib.IntN.{ℤ, pos};
+ghost use Rattle.std.specs.Orderings.{Decides};
+ghost use Rattle.stride.specs.Rules.{NoMore, FromTo, Works, Examples};
 ghost use Rattle.stride.specs.Strides as Strides;
-use divisors::is_multiple;
 use domain::Domain;
 use number::Op;
 use number::Relation;
-use number::difference;
-use working::work_constants;
-use working::work_moving;
+use working::covering;
+use working::working;
 
 pub impl Domain for Stride as StrideDomain {
     ghost describes = { Strides.describes };
@@ -43,37 +44,30 @@ pub impl Domain for Stride as StrideDomain {
         Stride::whole()
     }
 
-    fn value(lo: i32, hi: i32) -> Stride {
-        if lo == hi {
-            Stride::strided(0, lo)
-        } else {
-            Stride::whole()
-        }
+    fn value(lo: i32, hi: i32) -> Stride
+        ensures model { λ r. ⌜ r ≡ Strides.value lo hi ⌝ }
+        ensures means { λ r. ⌜ FromTo lo hi r ⌝ }
+    {
+        Stride::between(lo, hi)
     }
 
-    fn covers(a: Stride, b: Stride) -> bool {
-        is_multiple(a.modulus, b.modulus as u64)
-            && is_multiple(
-                a.modulus,
-                difference(b.remainder, a.remainder).unsigned_abs(),
-            )
+    fn covers(a: Stride, b: Stride) -> bool
+        ensures model { λ r. ⌜ r ≡ Strides.covers a b ⌝ }
+        ensures means { λ r. ⌜ Decides r (NoMore b a) ⌝ }
+    {
+        covering(a, b)
     }
 
-    fn work(op: Op, a: Stride, b: Stride) -> (Stride, bool, bool) {
-        if a.modulus == 0 && b.modulus == 0 {
-            return work_constants(op, a.remainder, b.remainder);
-        }
-        work_moving(
-            op,
-            divisors::gcd(a.modulus, b.modulus),
-            a.remainder,
-            b.remainder,
-        )
+    fn work(op: Op, a: Stride, b: Stride) -> (Stride, bool, bool)
+        ensures model { λ r. ⌜ r ≡ Strides.works op a b ⌝ }
+        ensures means { λ r. ⌜ Works op a b r ⌝ }
+    {
+        working(op, a, b)
     }
 
     fn narrow(a: Stride, rel: Relation, b: Stride) -> Option<Stride> {
         let equal = matches!(rel, Relation::Equal);
-        if equal && Self::covers(a, b) {
+        if equal && covering(a, b) {
             return Some(b);
         }
         if a.modulus == 0 && b.modulus == 0 && !rel.holds(a.remainder, b.remainder) {
@@ -81,4 +75,12 @@ pub impl Domain for Stride as StrideDomain {
         }
         Some(a)
     }
+}
+
+/// Works the odd numbers plus those that leave 3 by 4: the even numbers, with the range warning.
+pub fn example_sum() -> (Stride, bool, bool)
+    ensures answers { λ r. ⌜ r ≡ (Strides.strided 2 (pos 0), false, true) ⌝ }
+    ensures means { λ _. ⌜ Examples ⌝ }
+{
+    StrideDomain::work(Op::Add, Stride::strided(2, 1), Stride::strided(4, 3))
 }

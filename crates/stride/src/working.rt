@@ -2,7 +2,9 @@
 ghost use mathlib.Core.Path.{_≡_};
 ghost use Prim.Native.Nat.{_<_};
 ghost use Rattle.number.specs.Exact.{worked};
-ghost use Rattle.stride.specs.Strides.{made, anything, strided as stridedOf, constants, moved as movedTo, steps};
+ghost use Rattle.stride.specs.Strides.{made, anything, value, covers, works, strided as stridedOf, constants, moved as movedTo, steps};
+use super::divisors::gcd;
+use super::divisors::is_multiple;
 use super::divisors::reduced;
 use super::value::Stride;
 use number::Op;
@@ -56,10 +58,38 @@ impl Stride {
             None => Stride::whole(),
         }
     }
+
+    /// The integers from `lo` to `hi`: one is constant, and of more nothing is known.
+    pub(crate) fn between(lo: i32, hi: i32) -> Stride
+        ensures { λ r. ⌜ r ≡ value lo hi ⌝ }
+    {
+        if lo == hi {
+            return Stride::strided(0, lo);
+        }
+        Stride::whole()
+    }
+}
+
+/// Whether `a` describes all that `b` describes.
+pub fn covering(a: Stride, b: Stride) -> bool
+    ensures { λ r. ⌜ r ≡ covers a b ⌝ }
+{
+    let apart = difference(b.remainder, a.remainder).unsigned_abs();
+    is_multiple(a.modulus, b.modulus as u64) && is_multiple(a.modulus, apart)
+}
+
+/// What the operation gives on two strides, with the zero warning and the range warning.
+pub fn working(op: Op, a: Stride, b: Stride) -> (Stride, bool, bool)
+    ensures { λ r. ⌜ r ≡ works op a b ⌝ }
+{
+    if a.modulus == 0 && b.modulus == 0 {
+        return work_constants(op, a.remainder, b.remainder);
+    }
+    work_moving(op, gcd(a.modulus, b.modulus), a.remainder, b.remainder)
 }
 
 /// Two constants are worked exactly, and warn exactly where they trap.
-pub fn work_constants(op: Op, a: i32, b: i32) -> (Stride, bool, bool)
+fn work_constants(op: Op, a: i32, b: i32) -> (Stride, bool, bool)
     ensures { λ r. ⌜ r ≡ constants (worked op a b) ⌝ }
 {
     match op.apply(a, b) {
@@ -82,7 +112,7 @@ fn moved(modulus: u16, exact: i64) -> (Stride, bool, bool)
 }
 
 /// The operation on strides with the remainders `a` and `b`, whose moduli have the greatest common divisor `gcd`.
-pub fn work_moving(op: Op, gcd: u16, a: i32, b: i32) -> (Stride, bool, bool)
+fn work_moving(op: Op, gcd: u16, a: i32, b: i32) -> (Stride, bool, bool)
     requires { ⌜ 0 < gcd ⌝ }
     ensures { λ r. ⌜ r ≡ steps op gcd a b ⌝ }
 {

@@ -1,11 +1,7 @@
-use mathlib.Core.Path.{sym, subst, _∙_}
-use Prim.Native.Nat.{_<_}
-use Rattle.stride.proofs.Multiples.{gcd-positive, not-both}
-use Rattle.stride.proofs.StrideLaws.{moving}
+use mathlib.Core.Path.{sym, subst}
+use Rattle.stride.specs.Rules.{Works}
+use Rattle.stride.proofs.RuleProofs.{works-means}
 use Rattle.stride.proofs.StrideDomain.work.Needs as need
 
-pub work-moving-requires : need.work-moving-requires
-work-moving-requires c κs = subst (λ g. 0 < g) (sym (c .gcd .ensures .value)) (gcd-positive (c .args .a .modulus) (c .args .b .modulus) (not-both (c .else-a-eq0 .either)))
-
 pub returns : need.returns
-returns c = c .work-moving .ensures ∙ moving (c .args .op) (c .args .a) (c .args .b) (c .gcd .result) (c .gcd .ensures .value) (not-both (c .else-a-eq0 .either))
+returns c = record { model = c .working .ensures; means = subst (Works (c .args .op) (c .args .a) (c .args .b)) (sym (c .working .ensures)) (works-means (c .args .op) (c .args .a) (c .args .b)) }
