@@ -1,5 +1,5 @@
 -- The answers of strides mean what the rules say. Assumes nothing.
-use mathlib.Core.Bool.{true, false, not}
+use mathlib.Core.Bool.{Bool, true, false, not, _&&_}
 use mathlib.Core.Logic.{⊎-elim}
 use mathlib.Core.Path.{_≡_, refl, sym, ap, subst, _∙_}
 use Prim.Native.Nat.{ℕ, _<_, _∣_}
@@ -9,20 +9,23 @@ use lib.IntN.{ℤ, pos, natAbs, _+ℤ_, _-ℤ_}
 use Rattle.std.specs.Numbers.{remEuclid}
 use Rattle.std.specs.Orderings.{Decides}
 use Rattle.std.proofs.shelf.Signed.{ints}
-use Rattle.std.proofs.shelf.Tests.{and-from, eq-eqb, cases-eq, cond-true, cond-false, cases-bool}
-use Rattle.number.specs.Exact.{Int32, eqZ, exact, zeroTrap, rangeTrap, worked, fits32}
+use Rattle.std.proofs.shelf.Tests.{false≢true, and-parts, and-from, both-ways, eqb-true, not-true, not-from-false, eq-eqb, cases-eq, cond-true, cond-false, cases-bool}
+use Rattle.number.specs.Exact.{Int32, eqZ, exact, holds, zeroTrap, rangeTrap, worked, fits32}
 use Rattle.number.specs.declared.Op.{Op}
 use Rattle.number.specs.declared.Op.the-variants.{Add, Sub, Mul, Div, IsLess, IsAtMost, IsEqual, IsUnequal}
+use Rattle.number.specs.declared.Relation.{Relation}
+use Rattle.number.specs.declared.Relation.the-variants.{Less, AtMost, Equal, Unequal, Greater, AtLeast}
+use Rattle.std.specs.declared.option.Option.the-variants.{Some, None}
 use Rattle.number.proofs.Order.{eq-from-test, test-from-eq}
 use Rattle.arith.specs.Residues.{Congruent, gcd, gcdWithin}
 use Rattle.arith.proofs.Remainders.{congruent-refl, congruent-sym, congruent-trans, remainder-congruent, remainder-below}
 use Rattle.stride.specs.declared.value.Stride.{Stride}
 use Rattle.stride.specs.Fitting.{fitting}
-use Rattle.stride.specs.Strides.{describes, made, anything, strided, covers, value, constants, moved, steps, works}
-use Rattle.stride.specs.Rules.{NoMore, FromTo, Exactly, Moves, Gives, Works, Examples}
+use Rattle.stride.specs.Strides.{describes, made, anything, strided, covers, value, constants, moved, steps, works, constant, isEqual, narrows}
+use Rattle.stride.specs.Rules.{NoMore, FromTo, Exactly, Moves, Gives, Works, Narrows, Examples}
 use Rattle.stride.proofs.Multiples.{divides-multiple, congruent-to, gcd-positive, gcd-small, gcd-greatest}
 use Rattle.stride.proofs.Made.{stride-facts, fitting-constant, fitting-moving, strided-fits}
-use Rattle.stride.proofs.StrideLaws.{covers-sound, constants-zero, constants-range, constants-value, fits-exact, constants-warned, not-constants}
+use Rattle.stride.proofs.StrideLaws.{only-remainder, covers-sound, constants-zero, constants-range, constants-value, fits-exact, constants-warned, not-constants}
 
 -- covering: two integers that b describes decide it, its remainder and the next one
 next-described : (m : ℕ) (r : ℤ) → Congruent m (r +ℤ pos m) r
@@ -105,6 +108,52 @@ works-means op a b = record {
   constants = λ h i. subst (Exactly op (a .remainder) (b .remainder)) (sym (cond-true _ _ _ (and-from _ _ (eq-eqb (a .modulus) 0 h) (eq-eqb (b .modulus) 0 i)))) (exactly op (a .remainder) (b .remainder));
   otherwise = λ more. subst (Gives op a b) (sym (cond-false _ _ _ (not-constants a b more))) (gives a b more op);
 }
+
+-- narrowing
+is-equal : (rel : Relation) → isEqual rel ≡ true → rel ≡ Equal
+is-equal Less h = absurd (false≢true h)
+is-equal AtMost h = absurd (false≢true h)
+is-equal Equal h = refl
+is-equal Unequal h = absurd (false≢true h)
+is-equal Greater h = absurd (false≢true h)
+is-equal AtLeast h = absurd (false≢true h)
+
+-- a constant that is covered by a constant is the same integer
+covered-constant : (a b : Stride) → a .modulus ≡ 0 → covers a b ≡ true → a .remainder ≡ b .remainder
+covered-constant a b z t = sym (only-remainder (a .modulus) (b .remainder) (a .remainder) z (covers-sound a b t (b .remainder) (congruent-refl (b .modulus) (b .remainder))))
+
+pub narrows-means : (a : Stride) (rel : Relation) (b : Stride) → Narrows a rel b (narrows a rel b)
+narrows-means a rel b = record { equal = equal; failed = failed; otherwise = otherwise }
+  where
+    takes : Bool
+    takes = isEqual rel && covers a b
+
+    fails : Bool
+    fails = constant a && constant b && not (holds rel (a .remainder) (b .remainder))
+
+    taken : takes ≡ true → (rel ≡ Equal) × (covers a b ≡ true)
+    taken t = let p = and-parts (isEqual rel) (covers a b) t in (is-equal rel (p .0), p .1)
+
+    equal : rel ≡ Equal → NoMore b a → narrows a rel b ≡ Some b
+    equal e n = cond-true _ _ _ (and-from _ _ (ap isEqual e) (covers-complete a b n))
+
+    failing : fails ≡ true → (a .modulus ≡ 0) × (b .modulus ≡ 0) × (holds rel (a .remainder) (b .remainder) ≡ false)
+    failing t =
+        let p = and-parts (constant a && constant b) (not (holds rel (a .remainder) (b .remainder))) t in
+        let q = and-parts (constant a) (constant b) (p .0) in
+        (eqb-true (a .modulus) 0 (q .0), eqb-true (b .modulus) 0 (q .1), not-true _ (p .1))
+
+    failed : a .modulus ≡ 0 → b .modulus ≡ 0 → holds rel (a .remainder) (b .remainder) ≡ false → narrows a rel b ≡ None
+    failed h i f = ⊎-elim
+        (λ t. absurd (both-ways _ f (ap (λ r. holds r (a .remainder) (b .remainder)) (taken t .0) ∙ test-from-eq (covered-constant a b h (taken t .1)))))
+        (λ t. cond-false _ _ _ t ∙ cond-true _ _ _ (and-from _ _ (and-from _ _ (eq-eqb (a .modulus) 0 h) (eq-eqb (b .modulus) 0 i)) (not-from-false _ f)))
+        (cases-bool takes)
+
+    otherwise : (rel ≡ Equal → NoMore b a → ⊥) → (a .modulus ≡ 0 → b .modulus ≡ 0 → holds rel (a .remainder) (b .remainder) ≡ false → ⊥) → narrows a rel b ≡ Some a
+    otherwise n f =
+        let s : takes ≡ false = ⊎-elim (λ t. absurd (n (taken t .0) (covers-exactly a b .0 (taken t .1)))) (λ t. t) (cases-bool takes) in
+        let r : fails ≡ false = ⊎-elim (λ t. absurd (f (failing t .0) (failing t .1) (failing t .2))) (λ t. t) (cases-bool fails) in
+        cond-false _ _ _ s ∙ cond-false _ _ _ r
 
 pub examples : Examples
 unfolding made gcd gcdWithin

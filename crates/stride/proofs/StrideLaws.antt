@@ -98,7 +98,7 @@ stride-reading = record {
 -- working
 
 -- what a constant describes is its remainder
-only-remainder : (m : ℕ) (x r : ℤ) → m ≡ 0 → Congruent m x r → x ≡ r
+pub only-remainder : (m : ℕ) (x r : ℤ) → m ≡ 0 → Congruent m x r → x ≡ r
 only-remainder m x r z (k, e) = e ∙ ap (λ n. r +ℤ (pos n *ℤ k)) z ∙ nothing-more r k
   where
     nothing-more : (r k : ℤ) → r +ℤ (pos 0 *ℤ k) ≡ r

@@ -4,10 +4,12 @@ use mathlib.Core.Path.{_≡_}
 use Prim.Native.Nat.{ℕ}
 use lib.IntN.{ℤ, pos, negsuc, _+ℤ_, _-ℤ_, _*ℤ_}
 use lib.Signed.{_≤ℤ_, _<ℤ_}
+use Rattle.std.specs.declared.option.Option.{Option}
 use Rattle.std.specs.declared.option.Option.the-variants.{Some, None}
-use Rattle.number.specs.Exact.{Int32, eqZ, exact, zeroTrap, rangeTrap}
+use Rattle.number.specs.Exact.{Int32, eqZ, exact, holds, zeroTrap, rangeTrap}
 use Rattle.number.specs.declared.Op.{Op}
 use Rattle.number.specs.declared.Op.the-variants.{Add, Sub, Mul, Div, IsLess, IsAtMost, IsEqual, IsUnequal}
+use Rattle.number.specs.declared.Relation.{Relation}
 use Rattle.number.specs.declared.Relation.the-variants.{Equal, Unequal}
 use Rattle.arith.specs.Residues.{Congruent}
 use Rattle.stride.specs.declared.value.Stride.{Stride}
@@ -55,6 +57,12 @@ Gives IsUnequal a b got = got ≡ (anything, false, false)
 pub record Works (op : Op) (a b : Stride) (got : Stride × Bool × Bool) : Type 0 where
   pub constants : a .modulus ≡ 0 → b .modulus ≡ 0 → Exactly op (a .remainder) (b .remainder) got
   pub otherwise : (a .modulus ≡ 0 → b .modulus ≡ 0 → ⊥) → Gives op a b got
+
+-- by = it gives b where a describes all of b; two constants that fail the relation give none; else it gives a
+pub record Narrows (a : Stride) (rel : Relation) (b : Stride) (got : Option Stride) : Type 0 where
+  pub equal : rel ≡ Equal → NoMore b a → got ≡ Some b
+  pub failed : a .modulus ≡ 0 → b .modulus ≡ 0 → holds rel (a .remainder) (b .remainder) ≡ false → got ≡ None
+  pub otherwise : (rel ≡ Equal → NoMore b a → ⊥) → (a .modulus ≡ 0 → b .modulus ≡ 0 → holds rel (a .remainder) (b .remainder) ≡ false → ⊥) → got ≡ Some a
 
 -- cases worked out
 pub record Examples : Type 0 where

@@ -9,12 +9,13 @@ ghost use mathlib.Core.Path.{_≡_};
 ghost use mathlib.Core.Bool.{true, false};
 ghost use lib.IntN.{ℤ, pos};
 ghost use Rattle.std.specs.Orderings.{Decides};
-ghost use Rattle.stride.specs.Rules.{NoMore, FromTo, Works, Examples};
+ghost use Rattle.stride.specs.Rules.{NoMore, FromTo, Works, Narrows, Examples};
 ghost use Rattle.stride.specs.Strides as Strides;
 use domain::Domain;
 use number::Op;
 use number::Relation;
 use working::covering;
+use working::narrowing;
 use working::working;
 
 pub impl Domain for Stride as StrideDomain {
@@ -65,15 +66,11 @@ pub impl Domain for Stride as StrideDomain {
         working(op, a, b)
     }
 
-    fn narrow(a: Stride, rel: Relation, b: Stride) -> Option<Stride> {
-        let equal = matches!(rel, Relation::Equal);
-        if equal && covering(a, b) {
-            return Some(b);
-        }
-        if a.modulus == 0 && b.modulus == 0 && !rel.holds(a.remainder, b.remainder) {
-            return None;
-        }
-        Some(a)
+    fn narrow(a: Stride, rel: Relation, b: Stride) -> Option<Stride>
+        ensures model { λ r. ⌜ r ≡ Strides.narrows a rel b ⌝ }
+        ensures means { λ r. ⌜ Narrows a rel b r ⌝ }
+    {
+        narrowing(a, rel, b)
     }
 }
 

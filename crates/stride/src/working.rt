@@ -2,12 +2,13 @@
 ghost use mathlib.Core.Path.{_≡_};
 ghost use Prim.Native.Nat.{_<_};
 ghost use Rattle.number.specs.Exact.{worked};
-ghost use Rattle.stride.specs.Strides.{made, anything, value, covers, works, strided as stridedOf, constants, moved as movedTo, steps};
+ghost use Rattle.stride.specs.Strides.{made, anything, value, covers, works, narrows, strided as stridedOf, constants, moved as movedTo, steps};
 use super::divisors::gcd;
 use super::divisors::is_multiple;
 use super::divisors::reduced;
 use super::value::Stride;
 use number::Op;
+use number::Relation;
 use number::Trap;
 use number::difference;
 use number::product;
@@ -86,6 +87,20 @@ pub fn working(op: Op, a: Stride, b: Stride) -> (Stride, bool, bool)
         return work_constants(op, a.remainder, b.remainder);
     }
     work_moving(op, gcd(a.modulus, b.modulus), a.remainder, b.remainder)
+}
+
+/// What is left of `a` where it stands in the relation `rel` to `b`.
+pub fn narrowing(a: Stride, rel: Relation, b: Stride) -> Option<Stride>
+    ensures { λ r. ⌜ r ≡ narrows a rel b ⌝ }
+{
+    let equal = matches!(rel, Relation::Equal);
+    if equal && covering(a, b) {
+        return Some(b);
+    }
+    if a.modulus == 0 && b.modulus == 0 && !rel.holds(a.remainder, b.remainder) {
+        return None;
+    }
+    Some(a)
 }
 
 /// Two constants are worked exactly, and warn exactly where they trap.
