@@ -97,6 +97,10 @@ abbrev pub orElse : {A : Type 0} → Bool → Trap → Result A Trap → Result 
 orElse true t r = Err t
 orElse false t r = r
 
+-- an integer of 32 bits, or the range trap
+abbrev pub inRange : ℤ → Result ℤ Trap
+inRange z = orElse (not (fits32 z)) Range (Ok z)
+
 -- what one operation on two 32-bit integers answers: its result, or the trap
 abbrev pub worked : Op → ℤ → ℤ → Result ℤ Trap
 worked op x y = orElse (zeroTrap op x y) Zero (orElse (rangeTrap op x y) Range (Ok (exact op x y)))

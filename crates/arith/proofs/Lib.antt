@@ -1,0 +1,4 @@
+pub mod Quotients
+pub mod Bounds
+pub mod Products
+pub mod Remainders
