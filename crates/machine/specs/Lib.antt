@@ -1,0 +1,4 @@
+pub mod Imp
+pub mod Inputs
+pub mod Runs
+pub mod Steps
