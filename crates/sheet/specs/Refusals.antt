@@ -1,7 +1,7 @@
 -- Each refusal with its four numbers: rule, place, way, variable. Assumes nothing.
 use Prim.Native.Nat.{ℕ}
 use Rattle.sheet.specs.declared.refusals.Refusal.{Refusal}
-use Rattle.sheet.specs.declared.refusals.Refusal.the-variants.{SheetSize, HeadByte, PartExtent, PartSize, InputRecord, RowByte}
+use Rattle.sheet.specs.declared.refusals.Refusal.the-variants.{SheetSize, HeadByte, PartExtent, PartSize, InputRecord, RowByte, NoWidth, TableSize, EntryFlag, CellUnreadable, StartUncovered, ZeroWarning, RangeWarning, EntryAbsent, NotCovered}
 use Rattle.sheet.specs.declared.refusals.Report.{Report}
 
 abbrev pub report : ℕ → ℕ → ℕ → ℕ → Report
@@ -14,3 +14,12 @@ numbers (PartExtent part) = report 3 part 0 0
 numbers (PartSize part) = report 4 part 0 0
 numbers (InputRecord input) = report 5 input 0 0
 numbers (RowByte place byte) = report 6 place byte 0
+numbers NoWidth = report 7 0 0 0
+numbers TableSize = report 8 0 0 0
+numbers (EntryFlag place) = report 9 place 0 0
+numbers (CellUnreadable place variable) = report 10 place 0 variable
+numbers (StartUncovered variable) = report 11 0 0 variable
+numbers (ZeroWarning place) = report 12 place 0 0
+numbers (RangeWarning place) = report 13 place 0 0
+numbers (EntryAbsent place way) = report 14 place way 0
+numbers (NotCovered place way variable) = report 15 place way variable

@@ -8,15 +8,62 @@ pub enum Refusal {
     /// 1: the sheet has under 28 or over 1,048,576 bytes.
     SheetSize,
     /// 2: a byte of the head, 0 to 3, is wrong; the lowest such.
-    HeadByte { byte: usize },
+    HeadByte {
+        byte: usize,
+    },
     /// 3: a part begins before the end of what precedes it, or ends past the sheet.
-    PartExtent { part: usize },
+    PartExtent {
+        part: usize,
+    },
     /// 4: the inputs part or the rows part is not as long as its records.
-    PartSize { part: usize },
+    PartSize {
+        part: usize,
+    },
     /// 5: an input has an unknown kind, or its lo exceeds its hi.
-    InputRecord { input: usize },
+    InputRecord {
+        input: usize,
+    },
     /// 6: a byte of a row is wrong; the lowest such.
-    RowByte { place: usize, byte: usize },
+    RowByte {
+        place: usize,
+        byte: usize,
+    },
+    /// 7: the domain has no cell: its width is 0.
+    NoWidth,
+    /// 8: the table is not an entry for each place, a flag and a cell for each variable.
+    TableSize,
+    /// 9: the first byte of an entry is neither 0 nor 1.
+    EntryFlag {
+        place: usize,
+    },
+    /// 10: a cell of a present entry holds no value.
+    CellUnreadable {
+        place: usize,
+        variable: usize,
+    },
+    /// 11: entry 0 is absent (variable 16), or a cell of it does not cover the value of 0 (the lowest).
+    StartUncovered {
+        variable: usize,
+    },
+    /// 12: a work row may divide by 0.
+    ZeroWarning {
+        place: usize,
+    },
+    /// 13: the result of a work row may leave the 32-bit integers.
+    RangeWarning {
+        place: usize,
+    },
+    /// 14: a way leads to an absent entry.
+    EntryAbsent {
+        place: usize,
+        way: usize,
+    },
+    /// 15: a way leads to an entry that does not cover the value of a variable.
+    NotCovered {
+        place: usize,
+        way: usize,
+        variable: usize,
+    },
 }
 
 /// A refusal as four numbers. What a refusal does not name is 0.
@@ -40,6 +87,19 @@ impl Refusal {
             Refusal::PartSize { part } => (4, part, 0, 0),
             Refusal::InputRecord { input } => (5, input, 0, 0),
             Refusal::RowByte { place, byte } => (6, place, byte, 0),
+            Refusal::NoWidth => (7, 0, 0, 0),
+            Refusal::TableSize => (8, 0, 0, 0),
+            Refusal::EntryFlag { place } => (9, place, 0, 0),
+            Refusal::CellUnreadable { place, variable } => (10, place, 0, variable),
+            Refusal::StartUncovered { variable } => (11, 0, 0, variable),
+            Refusal::ZeroWarning { place } => (12, place, 0, 0),
+            Refusal::RangeWarning { place } => (13, place, 0, 0),
+            Refusal::EntryAbsent { place, way } => (14, place, way, 0),
+            Refusal::NotCovered {
+                place,
+                way,
+                variable,
+            } => (15, place, way, variable),
         };
         Report {
             number,

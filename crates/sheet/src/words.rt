@@ -32,6 +32,48 @@ pub impl fmt::Display for Refusal as RefusalDisplay {
                 "byte {byte} of the row at {place} is wrong: it {}",
                 ByteRule(byte)
             ),
+            Refusal::NoWidth => write!(f, "the domain has no cell of 1 to 64 bytes"),
+            Refusal::TableSize => write!(
+                f,
+                "the table part is not a flag and a cell for each variable, for each place"
+            ),
+            Refusal::EntryFlag { place } => {
+                write!(
+                    f,
+                    "the first byte of the entry at {place} is neither 0 nor 1"
+                )
+            }
+            Refusal::CellUnreadable { place, variable } => {
+                write!(
+                    f,
+                    "the cell of v{variable} in the entry at {place} holds no value"
+                )
+            }
+            Refusal::StartUncovered { variable: 16 } => write!(f, "the entry at 0 is absent"),
+            Refusal::StartUncovered { variable } => {
+                write!(
+                    f,
+                    "the cell of v{variable} in the entry at 0 does not cover 0"
+                )
+            }
+            Refusal::ZeroWarning { place } => { write!(f, "the row at {place} may divide by 0") }
+            Refusal::RangeWarning { place } => {
+                write!(
+                    f,
+                    "the result of the row at {place} may leave the 32-bit integers"
+                )
+            }
+            Refusal::EntryAbsent { place, way } => {
+                write!(f, "way {way} from {place} leads to an absent entry")
+            }
+            Refusal::NotCovered {
+                place,
+                way,
+                variable,
+            } => write!(
+                f,
+                "way {way} from {place} leads to an entry that does not cover v{variable}"
+            ),
         }
     }
 }

@@ -1,0 +1,5 @@
+pub mod Checks
+pub mod Claims
+pub mod Faults
+pub mod Tables
+pub mod Ways
