@@ -29,7 +29,7 @@ use Rattle.machine.specs.declared.InputKind.{InputKind}
 use Rattle.machine.specs.declared.InputKind.the-variants.{Reading, Setting}
 use Rattle.machine.specs.declared.Row.{Row}
 use Rattle.machine.specs.declared.Row.the-variants.{End, Put, Take, Work, Fork}
-use Rattle.sheet.specs.Bytes.{little, integerAt}
+use Rattle.sheet.specs.Bytes.{AllBytes, little, integerAt}
 use Rattle.sheet.specs.Format.{integerBytes, rowBytes, Names, inputBytes, Proper, Given, Held, Headed, InOrder, WellFormed, Means, kindCode}
 use Rattle.sheet.specs.Inputs.{inputOf, inputAt, inputsRight}
 use Rattle.sheet.specs.Parts.{Region, Parts, endOf, offsetOf, lengthOf, partOf, headRight, headByte, sizeRight, sizesRight, partsOf}
@@ -38,7 +38,6 @@ use Rattle.sheet.specs.Sheets.{Fits, sheetOf}
 use Rattle.sheet.specs.declared.refusals.Refusal.{Refusal}
 use Rattle.sheet.specs.declared.refusals.Refusal.the-variants.{SheetSize, HeadByte, PartExtent, PartSize, InputRecord}
 use Rattle.sheet.proofs.Formed.{formed-of}
-use Rattle.sheet.proofs.Spelled.{AllBytes}
 
 -- a number below 2^32 is made up of its four digits in base 256
 digits : (n : ℕ) → n < 4294967296 → little (n % 256) (n / 256 % 256) (n / 65536 % 256) (n / 16777216 % 256) ≡ n

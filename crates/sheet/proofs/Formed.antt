@@ -11,13 +11,14 @@ use Rattle.scan.proofs.Pieces.{piece-ends}
 use Rattle.scan.proofs.Scans.{stage, ok-same, up-each, then-ok}
 use Rattle.machine.specs.declared.Input.{Input}
 use Rattle.machine.specs.declared.Row.{Row}
+use Rattle.sheet.specs.Bytes.{AllBytes}
 use Rattle.sheet.specs.Format.{Held, WellFormed, inputBytes, rowBytes, Names}
 use Rattle.sheet.specs.Inputs.{inputAt, inputsRight}
 use Rattle.sheet.specs.Parts.{Region, Parts, partsOf}
 use Rattle.sheet.specs.Rows.{rowAt, rowsRight}
 use Rattle.sheet.specs.Sheets.{Fits, sheetOf}
 use Rattle.sheet.proofs.Layouts.{Laid, laid-of}
-use Rattle.sheet.proofs.Spelled.{AllBytes, bytes-chunk, bytes-take, bytes-drop}
+use Rattle.sheet.proofs.Spelled.{bytes-chunk, bytes-take, bytes-drop}
 use Rattle.sheet.proofs.Written.{row-written, input-written}
 
 -- a record of a part that is as long as its records has their size

@@ -14,12 +14,8 @@ use Rattle.std.proofs.shelf.Signed.{ofZ-toZ, ints}
 use Rattle.std.proofs.shelf.Tests.{cases-lt}
 use Rattle.scan.specs.Scan.{chunk}
 use Rattle.number.specs.Exact.{Int32}
-use Rattle.sheet.specs.Bytes.{little}
+use Rattle.sheet.specs.Bytes.{AllBytes, little}
 use Rattle.sheet.specs.Format.{integerBytes}
-
--- a list of bytes
-abbrev pub AllBytes : List ℕ → Type 0
-AllBytes xs = (i : ℕ) → getD xs i 0 < 256
 
 pub bytes-drop : (n : ℕ) (xs : List ℕ) → AllBytes xs → AllBytes (drop n xs)
 bytes-drop n xs h i = rw getD-drop (h (n + i))

@@ -19,11 +19,11 @@ use Rattle.machine.specs.declared.Input.{Input}
 use Rattle.machine.specs.declared.InputKind.the-variants.{Reading, Setting}
 use Rattle.machine.specs.declared.Row.{Row}
 use Rattle.machine.specs.declared.Row.the-variants.{End, Put, Take, Work, Fork}
-use Rattle.sheet.specs.Bytes.{integerAt}
+use Rattle.sheet.specs.Bytes.{AllBytes, integerAt}
 use Rattle.sheet.specs.Format.{integerBytes, rowBytes, inputBytes, kindCode, Names, Proper}
 use Rattle.sheet.specs.Inputs.{inputIn, inputOf}
 use Rattle.sheet.specs.Rows.{byKind, limits, rowByte, rowIn, rowOf}
-use Rattle.sheet.proofs.Spelled.{AllBytes, spelled, integer-written, integer-fits}
+use Rattle.sheet.proofs.Spelled.{spelled, integer-written, integer-fits}
 
 -- a code below 8 is that of its operation, and one below 6 that of its relation
 op-code : (c : ℕ) → c < 8 → opCode (valueOr (opCoded c) Add) ≡ c

@@ -1,10 +1,14 @@
 -- Numbers in bytes. Assumes nothing.
 use mathlib.Core.List.{List}
-use Prim.Native.Nat.{ℕ, _+_, _*_}
+use Prim.Native.Nat.{ℕ, _+_, _*_, _<_}
 use lib.IntN.{ℤ}
 use lib.ListN.{getD}
 use mir.Syntax.{w32}
 use mir.Val.{toZ}
+
+-- a list of bytes
+abbrev pub AllBytes : List ℕ → Type 0
+AllBytes xs = (i : ℕ) → getD xs i 0 < 256
 
 -- the number in four bytes, the lowest first
 abbrev pub little : ℕ → ℕ → ℕ → ℕ → ℕ
