@@ -1,0 +1,5 @@
+pub mod Fitting
+pub mod Forks
+pub mod Landed
+pub mod Meeting
+pub mod Reading

@@ -1,0 +1,4 @@
+pub mod Changes
+pub mod Grids
+pub mod Readable
+pub mod Scans
