@@ -8,7 +8,7 @@ use Prim.Native.Nat.{ℕ, _+_, _*_, _≤_, _<_}
 use native.Mathlib.Nat.{mul-le-mul-right}
 use native.Mathlib.Omega.{arith}
 use lib.Dec.{eqb, ltb}
-use lib.IntN.{pos}
+use lib.IntN.{ℤ, pos}
 use lib.ListN.{length, getD, drop}
 use lib.Signed.{leZ}
 use Rattle.std.proofs.shelf.Counted.{length-map-counting, getD-map-counting}
@@ -34,7 +34,8 @@ use Rattle.sheet.specs.declared.refusals.Refusal.{Refusal}
 use Rattle.sheet.specs.declared.refusals.Refusal.the-variants.{InputRecord, NoWidth, TableSize}
 use Rattle.sheet.proofs.Accepted.{row-read, input-read}
 use Rattle.sheet.proofs.Formed.{formed-of}
-use Rattle.domain.specs.Carrier.{Dom, Lawful}
+use Rattle.domain.specs.Carrier.{Dom, Lawful, asDom}
+use Rattle.domain.specs.Laws.{Order, Reading as ReadingLaw, Working, Narrowing}
 use Rattle.domain.specs.Model.{Ops}
 use Rattle.rules.specs.Checks.{startRight, placeRight, placesRight}
 use Rattle.rules.specs.Faults.{fixed, faulty}
@@ -169,3 +170,8 @@ pub taken-is-safe : (d : Dom) → Lawful d → TakenIsSafe d
 taken-is-safe d laws bs n s bytes e taken =
     let t = taken-passes (d .ops) bs n s bytes e taken in
     (t .0, passes-safe (d .describes) (d .ops) (laws .order) (laws .working) (laws .narrowing) (routineOf s) (claimsOf (d .ops) (tableOf (d .ops) s)) (t .1))
+
+-- the same, of the four laws one by one
+pub safe-by-laws : {V : Type 0} {describes : V → ℤ → Type 0} {o : Ops V} → Order describes o → ReadingLaw o → Working describes o → Narrowing describes o → TakenIsSafe (asDom V describes o)
+safe-by-laws {V} {describes} {o} order reading working narrowing =
+    taken-is-safe (asDom V describes o) (record { order = order; reading = reading; working = working; narrowing = narrowing })
