@@ -1,6 +1,6 @@
 -- What the expressions of rows evaluate to. Assumes nothing.
-use mathlib.Core.Path.{_≡_, refl, sym, ap, ap₂, subst, subst₂, _∙_}
-use mathlib.Core.Bool.{Bool, true, false, not, _&&_}
+use mathlib.Core.Path.{_≡_, refl, sym, subst₂}
+use mathlib.Core.Bool.{Bool, true, false}
 use mathlib.Core.List.{List, [], _∷_}
 use Prim.Native.Nat.{ℕ, zero, suc}
 use native.Mathlib.Omega.{arith}
@@ -10,7 +10,7 @@ use Rattle.number.specs.Exact.{holds, truth, exact, zeroTrap}
 use Rattle.number.specs.declared.Op.{Op}
 use Rattle.number.specs.declared.Relation.{Relation}
 use Rattle.number.specs.declared.Relation.the-variants.{Less, AtMost, Equal, Unequal, Greater, AtLeast}
-use Rattle.machine.specs.Imp.{Exp, among, var, apply, lookUp, Eval, pick, look, work, DividesByZero, here, left, right, condition}
+use Rattle.machine.specs.Imp.{among, var, apply, lookUp, Eval, pick, look, work, DividesByZero, here, left, right, condition}
 use Rattle.machine.specs.Inputs.{allows, mayGive}
 use Rattle.machine.specs.declared.Input.{Input}
 use Rattle.rules.specs.Ways.{inputOn}

@@ -3,7 +3,7 @@
 use mathlib.Core.Path.{_≡_, refl, sym, ap, subst, subst₂, _∙_}
 use mathlib.Core.Bool.{true, cond, not, _&&_}
 use mathlib.Core.List.{List}
-use mathlib.Core.Logic.{_⊎_, inl, inr, ⊎-elim}
+use mathlib.Core.Logic.{⊎-elim}
 use Prim.Native.Nat.{ℕ, _+_, _*_, _≤_, _<_}
 use native.Mathlib.Nat.{mul-le-mul-right}
 use native.Mathlib.Omega.{arith}
@@ -26,9 +26,9 @@ use Rattle.machine.specs.declared.Row.{Row}
 use Rattle.machine.specs.declared.Row.the-variants.{End}
 use Rattle.sheet.specs.Bytes.{AllBytes, integerAt}
 use Rattle.sheet.specs.Format.{Names, Proper, WellFormed, rowBytes, inputBytes}
-use Rattle.sheet.specs.Inputs.{inputIn, inputOf}
+use Rattle.sheet.specs.Inputs.{inputIn}
 use Rattle.sheet.specs.Parts.{Parts}
-use Rattle.sheet.specs.Rows.{rowIn, rowOf, rowByte, limits}
+use Rattle.sheet.specs.Rows.{rowIn, rowByte, limits}
 use Rattle.sheet.specs.Sheets.{sheetOf}
 use Rattle.sheet.specs.declared.refusals.Refusal.{Refusal}
 use Rattle.sheet.specs.declared.refusals.Refusal.the-variants.{InputRecord, NoWidth, TableSize}

@@ -1,32 +1,31 @@
 -- A table that passes the check is inductive: it describes the start, every step keeps it, and no step traps.
 -- Assumes the laws of the domain.
 use mathlib.Core.Path.{_≡_, refl, sym, ap, subst, _∙_}
-use mathlib.Core.Bool.{Bool, true, false, not, _&&_, cond}
+use mathlib.Core.Bool.{Bool, true, false, not, _&&_}
 use mathlib.Core.List.{List}
-use mathlib.Core.Logic.{_⊎_, inl, inr, ⊎-elim}
+use mathlib.Core.Logic.{⊎-elim}
 use Prim.Native.Nat.{ℕ, zero, suc, _≤_, _<_}
 use native.Mathlib.Nat.{not-suc-le-zero}
 use native.Mathlib.Omega.{arith}
 use lib.Dec.{eqb, lit<}
 use lib.IntN.{ℤ, pos}
-use lib.ListN.{length, getD, set, length-set, length-replicate, replicate}
+use lib.ListN.{length, set, length-set, length-replicate, replicate}
 use lib.Signed.{leZ, _≤ℤ_}
 use Rattle.std.proofs.shelf.Lists.{getD-set-same, getD-set-other, getD-replicate, getD-past}
-use Rattle.std.proofs.shelf.Tests.{cases-lt, cases-eq, cases-bool, and-parts, cond-both, eqb-true, eqb-false, not-true, both-ways, not-from-false, true≢false}
+use Rattle.std.proofs.shelf.Tests.{cases-lt, cases-eq, and-parts, cond-both, eqb-true, eqb-false, not-true, both-ways, not-from-false, true≢false}
 use Rattle.std.specs.declared.option.Option.{Option}
 use Rattle.std.specs.declared.option.Option.the-variants.{Some, None}
 use Rattle.std.specs.declared.result.Result.the-variants.{Ok}
-use Rattle.scan.specs.Scan.{Check, unless, upTo}
+use Rattle.scan.specs.Scan.{unless}
 use Rattle.scan.proofs.Scans.{stage, held, up-each}
 use Rattle.number.specs.Exact.{Int32, holds, mirrored, opposite, exact, zeroTrap, rangeTrap, fits32}
 use Rattle.number.specs.declared.Op.{Op}
 use Rattle.number.specs.declared.Relation.{Relation}
 use Rattle.number.specs.declared.Trap.{Trap}
-use Rattle.number.specs.declared.Trap.the-variants.{Zero, Range}
 use Rattle.number.proofs.Meaning.{holds-mirrored, holds-opposite}
 use Rattle.number.proofs.Order.{le-refl, le-from-test, le-trans, eq-from-test, le-of-eq, fits-from-test}
-use Rattle.machine.specs.Imp.{Exp, lookUp, Eval, Stmt, assign, branch, done, DividesByZero, means, condition}
-use Rattle.machine.specs.Runs.{Spot, at, start, Goes, assigned, held as branched, failed, Traps, zero as zeroTrapped, range as rangeTrapped, rowOn, Step, Trapped, Reaches, stays, onward}
+use Rattle.machine.specs.Imp.{lookUp, Eval, Stmt, assign, branch, done, DividesByZero, means}
+use Rattle.machine.specs.Runs.{Spot, at, start, Goes, assigned, held as branched, failed, Traps, zero as zeroTrapped, range as rangeTrapped, rowOn, Step, Trapped, stays, onward}
 use Rattle.machine.specs.Inputs.{mayGive}
 use Rattle.machine.specs.declared.Input.{Input}
 use Rattle.machine.specs.declared.Row.{Row}
@@ -39,7 +38,7 @@ use Rattle.rules.specs.Checks.{Routine, allBelow, startRight, unwarned, covere
 use Rattle.rules.specs.Claims.{Claims, Described}
 use Rattle.rules.specs.Faults.{fixed}
 use Rattle.rules.specs.Safety.{Safe, Reachable}
-use Rattle.rules.specs.Ways.{Way, go, changed, inputOn, ways, way, meeting, forkWay}
+use Rattle.rules.specs.Ways.{go, changed, inputOn, ways, way, meeting, forkWay}
 use Rattle.rules.proofs.Evals.{picked, worked, divided, tested, not-zero, is-zero, in-set}
 
 -- a test that holds at each index below n holds at one
@@ -114,8 +113,9 @@ module _ {V : Type 0} (describes : V → ℤ → Type 0) (o : Ops V) (order : Or
             (lookUp locals x) (small x) (each x h);
       }) e
 
-  -- a value that is described by what it is changed to: x := n
+  -- a step from a state that the table describes
   module _ (s : Spot) (k : Kept describes r claims s) (few : r .variables ≤ 16) where
+    -- x := n, on a way whose value for x describes n
     put-on : (w x t : ℕ) (v : V) (n : ℤ) → x < r .variables → Int32 n → describes v n
         → lands o r claims (s .place) w (go t (changed (claims .cell (s .place)) x v)) ≡ Ok tt → Kept describes r claims (at t (set (s .locals) x n))
     put-on w x t v n below fits here e =
