@@ -1,0 +1,3 @@
+pub mod Evals
+pub mod Sheets
+pub mod Sound
