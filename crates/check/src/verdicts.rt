@@ -1,7 +1,10 @@
 // The verdict on a sheet.
 ghost use mathlib.Core.Path.{_≡_};
+ghost use Rattle.std.specs.Vec.{made};
 ghost use Rattle.sheet.specs.Views.{seen};
+ghost use Rattle.domain.specs.Carrier.{asDom};
 ghost use Rattle.rules.specs.Faults.{Meets};
+ghost use Rattle.rules.specs.Safety.{SafeSheet};
 ghost use Rattle.rules.specs.Tables.{tableRight, verdictOf};
 ghost use Rattle.check.specs.Grids.{partsIn};
 ghost use Rattle.check.specs.Readable.{Readable};
@@ -53,11 +56,20 @@ fn check_claims<D: Domain>(grid: &Grid<'_>) -> Result<(), Refusal>
     check_places::<D>(grid)
 }
 
-/// The verdict on a sheet in a domain: taken, with its number of places, or the first rule that it breaks.
-pub fn verdict<D: Domain>(bytes: &[u8]) -> Result<usize, Refusal>
+// The format, and then the table.
+fn judge<D: Domain>(bytes: &[u8]) -> Result<usize, Refusal>
     ensures { λ r. ⌜ Meets r (verdictOf (D·Domain .ops) (now (bytes .entry))) ⌝ }
 {
     let sheet = Sheet::read(bytes)?;
     check_table::<D>(sheet)?;
     Ok(sheet.places)
+}
+
+/// The verdict on a sheet in a domain: taken, with its number of places, or the first rule that it breaks.
+/// A routine that is taken is safe: its table describes every state that it reaches, and none traps.
+pub fn verdict<D: Domain>(bytes: &[u8]) -> Result<usize, Refusal>
+    ensures value { λ r. ⌜ Meets r (verdictOf (D·Domain .ops) (now (bytes .entry))) ⌝ }
+    ensures safe { λ r. ⌜ made r (λ _. SafeSheet (asDom D (D·Domain .describes) (D·Domain .ops)) (now (bytes .entry))) ⌝ }
+{
+    judge::<D>(bytes)
 }

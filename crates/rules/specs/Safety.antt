@@ -30,3 +30,7 @@ abbrev pub TakenIsSafe : Dom → Type 0
 TakenIsSafe d =
     (bs : List ℕ) (n : ℕ) (s : Parts) → AllBytes bs → sheetOf bs ≡ Ok s → verdictOf (d .ops) bs ≡ Ok n
     → (n ≡ s .places) × Safe (d .describes) (routineOf s) (claimsOf (d .ops) (tableOf (d .ops) s))
+
+-- the bytes are a sheet, and its routine is safe by its table
+abbrev pub SafeSheet : Dom → List ℕ → Type 0
+SafeSheet d bs = (s : Parts) × (sheetOf bs ≡ Ok s) × Safe (d .describes) (routineOf s) (claimsOf (d .ops) (tableOf (d .ops) s))

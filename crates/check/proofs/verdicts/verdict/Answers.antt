@@ -1,6 +1,11 @@
-use Rattle.sheet.specs.Views.{seen}
-use Rattle.check.proofs.Reading.{readable-of}
+use Rattle.rules.proofs.Sheets.{safe-by-laws}
+use Rattle.check.proofs.Taken.{taken-safe}
 use Rattle.check.proofs.verdicts.verdict.Needs as need
 
-pub check-table-requires : need.check-table-requires
-check-table-requires g c κs = readable-of (c .args .bytes .now) (seen (c .in-Continue-sheet .sheet)) (c .in-Continue-sheet .ensures tt .meaning)
+pub returns : need.returns
+returns g c = record {
+  value = c .judge .ensures;
+  safe = taken-safe _ (g .D·Domain .describes) (g .D·Domain .ops)
+      (safe-by-laws (g .D·Domain·met .order) (g .D·Domain·met .reading) (g .D·Domain·met .working) (g .D·Domain·met .narrowing))
+      (c .args .bytes .now) (λ i. c .typed .bytes i .fits) (c .judge .result) (c .judge .ensures);
+}
