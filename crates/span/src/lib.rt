@@ -3,6 +3,8 @@ ghost use lib.Signed.{_≤ℤ_};
 ghost use Rattle.number.specs.Exact.{least, greatest};
 
 mod making;
+pub mod narrowing;
+pub mod working;
 
 /// The integers from `lo` to `hi`, both of 32 bits.
 #[derive(Clone, Copy)]

@@ -52,14 +52,21 @@ impl Span {
         }
     }
 
+    /// The span, or every integer where there is none.
+    pub fn or_whole(span: Option<Span>) -> Span
+        ensures { λ r. ⌜ r ≡ orWhole span ⌝ }
+    {
+        match span {
+            Some(span) => span,
+            None => Span::whole(),
+        }
+    }
+
     /// The span from `lo` to `hi`, or every integer where `lo > hi`.
     pub fn value(lo: i32, hi: i32) -> Span
         ensures { λ r. ⌜ r ≡ orWhole (spanned lo hi) ⌝ }
     {
-        match Span::between(i64::from(lo), i64::from(hi)) {
-            Some(span) => span,
-            None => Span::whole(),
-        }
+        Span::or_whole(Span::between(i64::from(lo), i64::from(hi)))
     }
 
     /// Whether the span describes `z`.
