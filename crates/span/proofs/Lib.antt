@@ -1,2 +1,3 @@
 pub mod Made
 pub mod Covering
+pub mod Narrow
