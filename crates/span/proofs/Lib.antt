@@ -1,3 +1,5 @@
 pub mod Made
 pub mod Covering
 pub mod Narrow
+pub mod Compare
+pub mod Results

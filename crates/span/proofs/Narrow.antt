@@ -45,40 +45,49 @@ within s z p q = record { from = p; to = q }
 module _ (a b : Span) where
   less : LeastOf (Left a Less b) (spanned (a .lo) (minZ (a .hi) (b .hi -ℤ pos 1)))
   less = least-by (Left a Less b) (a .lo) (minZ (a .hi) (b .hi -ℤ pos 1)) (a .low) (omega (arith, ints, clamps, a .high))
-    (λ z h. (h .in-a .from, omega (arith, ints, clamps, h .in-a .to, h .in-b .to, h .related)))
-    (λ e. (record { in-a = within-lo a; y = b .hi; in-b = within-hi b; related = omega (arith, ints, clamps) }
-    , record { in-a = within a _ e (omega (arith, ints, clamps)); y = b .hi; in-b = within-hi b; related = omega (arith, ints, clamps) }))
+      (λ z h. (h .in-a .from, omega (arith, ints, clamps, h .in-a .to, h .in-b .to, h .related)))
+      (λ e. (
+        record { in-a = within-lo a; y = b .hi; in-b = within-hi b; related = omega (arith, ints, clamps) },
+        record { in-a = within a _ e (omega (arith, ints, clamps)); y = b .hi; in-b = within-hi b; related = omega (arith, ints, clamps) },
+      ))
 
   at-most : LeastOf (Left a AtMost b) (spanned (a .lo) (minZ (a .hi) (b .hi)))
   at-most = least-by (Left a AtMost b) (a .lo) (minZ (a .hi) (b .hi)) (a .low) (omega (arith, ints, clamps, a .high))
-    (λ z h. (h .in-a .from, omega (arith, ints, clamps, h .in-a .to, h .in-b .to, h .related)))
-    (λ e. (record { in-a = within-lo a; y = b .hi; in-b = within-hi b; related = omega (arith, ints, clamps) }
-    , record { in-a = within a _ e (omega (arith, ints, clamps)); y = b .hi; in-b = within-hi b; related = omega (arith, ints, clamps) }))
+      (λ z h. (h .in-a .from, omega (arith, ints, clamps, h .in-a .to, h .in-b .to, h .related)))
+      (λ e. (
+        record { in-a = within-lo a; y = b .hi; in-b = within-hi b; related = omega (arith, ints, clamps) },
+        record { in-a = within a _ e (omega (arith, ints, clamps)); y = b .hi; in-b = within-hi b; related = omega (arith, ints, clamps) },
+      ))
 
   greater : LeastOf (Left a Greater b) (spanned (maxZ (a .lo) (b .lo +ℤ pos 1)) (a .hi))
   greater = least-by (Left a Greater b) (maxZ (a .lo) (b .lo +ℤ pos 1)) (a .hi) (omega (arith, ints, clamps, a .low)) (a .high)
-    (λ z h. (omega (arith, ints, clamps, h .in-a .from, h .in-b .from, h .related), h .in-a .to))
-    (λ e. (record { in-a = within a _ (omega (arith, ints, clamps)) e; y = b .lo; in-b = within-lo b; related = omega (arith, ints, clamps) }
-    , record { in-a = within-hi a; y = b .lo; in-b = within-lo b; related = omega (arith, ints, clamps) }))
+      (λ z h. (omega (arith, ints, clamps, h .in-a .from, h .in-b .from, h .related), h .in-a .to))
+      (λ e. (
+        record { in-a = within a _ (omega (arith, ints, clamps)) e; y = b .lo; in-b = within-lo b; related = omega (arith, ints, clamps) },
+        record { in-a = within-hi a; y = b .lo; in-b = within-lo b; related = omega (arith, ints, clamps) },
+      ))
 
   at-least : LeastOf (Left a AtLeast b) (spanned (maxZ (a .lo) (b .lo)) (a .hi))
   at-least = least-by (Left a AtLeast b) (maxZ (a .lo) (b .lo)) (a .hi) (omega (arith, ints, clamps, a .low)) (a .high)
-    (λ z h. (omega (arith, ints, clamps, h .in-a .from, h .in-b .from, h .related), h .in-a .to))
-    (λ e. (record { in-a = within a _ (omega (arith, ints, clamps)) e; y = b .lo; in-b = within-lo b; related = omega (arith, ints, clamps) }
-    , record { in-a = within-hi a; y = b .lo; in-b = within-lo b; related = omega (arith, ints, clamps) }))
+      (λ z h. (omega (arith, ints, clamps, h .in-a .from, h .in-b .from, h .related), h .in-a .to))
+      (λ e. (
+        record { in-a = within a _ (omega (arith, ints, clamps)) e; y = b .lo; in-b = within-lo b; related = omega (arith, ints, clamps) },
+        record { in-a = within-hi a; y = b .lo; in-b = within-lo b; related = omega (arith, ints, clamps) },
+      ))
 
   -- an integer of both is related to itself
   shared : (z : ℤ) → maxZ (a .lo) (b .lo) ≤ℤ z → z ≤ℤ minZ (a .hi) (b .hi) → Left a Equal b z
-  shared z p q = record
-    { in-a = within a z (omega (arith, ints, clamps)) (omega (arith, ints, clamps))
-    ; y = z
-    ; in-b = within b z (omega (arith, ints, clamps)) (omega (arith, ints, clamps))
-    ; related = refl }
+  shared z p q = record {
+    in-a = within a z (omega (arith, ints, clamps)) (omega (arith, ints, clamps));
+    y = z;
+    in-b = within b z (omega (arith, ints, clamps)) (omega (arith, ints, clamps));
+    related = refl;
+  }
 
   equal : LeastOf (Left a Equal b) (spanned (maxZ (a .lo) (b .lo)) (minZ (a .hi) (b .hi)))
   equal = least-by (Left a Equal b) (maxZ (a .lo) (b .lo)) (minZ (a .hi) (b .hi)) (omega (arith, ints, clamps, a .low)) (omega (arith, ints, clamps, a .high))
-    (λ z h. (omega (arith, ints, clamps, h .in-a .from, h .in-b .from, h .related), omega (arith, ints, clamps, h .in-a .to, h .in-b .to, h .related)))
-    (λ e. (shared _ (le-refl _) e, shared _ e (le-refl _)))
+      (λ z h. (omega (arith, ints, clamps, h .in-a .from, h .in-b .from, h .related), omega (arith, ints, clamps, h .in-a .to, h .in-b .to, h .related)))
+      (λ e. (shared _ (le-refl _) e, shared _ e (le-refl _)))
 
   -- b describes z alone, or something else too
   alone : (z : ℤ) → only b z ≡ true → (b .lo ≡ z) × (b .hi ≡ z)
@@ -89,25 +98,25 @@ module _ (a b : Span) where
 
   other : (z : ℤ) → only b z ≡ false → (y : ℤ) × Within b y × (z ≡ y → ⊥)
   other z e = ⊎-elim
-    (λ f. (b .lo, within-lo b, differs (b .lo) z f))
-    (λ f. (b .hi, within-hi b, differs (b .hi) z f))
-    (and-cases (eqZ (b .lo) z) (eqZ (b .hi) z) e)
+      (λ f. (b .lo, within-lo b, differs (b .lo) z f))
+      (λ f. (b .hi, within-hi b, differs (b .hi) z f))
+      (and-cases (eqZ (b .lo) z) (eqZ (b .hi) z) e)
 
   from-lo : (t : Bool) → only b (a .lo) ≡ t → (a .lo +ℤ truth t) ≤ℤ a .hi → Left a Unequal b (a .lo +ℤ truth t)
   from-lo true e h =
-    let p = alone (a .lo) e in
-    record { in-a = within a _ (omega (arith, ints)) h; y = b .lo; in-b = within-lo b; related = omega (arith, ints, p .0) }
+      let p = alone (a .lo) e in
+      record { in-a = within a _ (omega (arith, ints)) h; y = b .lo; in-b = within-lo b; related = omega (arith, ints, p .0) }
   from-lo false e h =
-    let o = other (a .lo) e in
-    record { in-a = within a _ (omega (arith, ints)) h; y = o .0; in-b = o .1; related = λ q. o .2 (omega (arith, ints)) }
+      let o = other (a .lo) e in
+      record { in-a = within a _ (omega (arith, ints)) h; y = o .0; in-b = o .1; related = λ q. o .2 (omega (arith, ints)) }
 
   from-hi : (t : Bool) → only b (a .hi) ≡ t → a .lo ≤ℤ (a .hi -ℤ truth t) → Left a Unequal b (a .hi -ℤ truth t)
   from-hi true e h =
-    let p = alone (a .hi) e in
-    record { in-a = within a _ h (omega (arith, ints)); y = b .lo; in-b = within-lo b; related = omega (arith, ints, p .0) }
+      let p = alone (a .hi) e in
+      record { in-a = within a _ h (omega (arith, ints)); y = b .lo; in-b = within-lo b; related = omega (arith, ints, p .0) }
   from-hi false e h =
-    let o = other (a .hi) e in
-    record { in-a = within a _ h (omega (arith, ints)); y = o .0; in-b = o .1; related = λ q. o .2 (omega (arith, ints)) }
+      let o = other (a .hi) e in
+      record { in-a = within a _ h (omega (arith, ints)); y = o .0; in-b = o .1; related = λ q. o .2 (omega (arith, ints)) }
 
   past-lo : (t : Bool) → only b (a .lo) ≡ t → (z : ℤ) → Left a Unequal b z → (a .lo +ℤ truth t) ≤ℤ z
   past-lo true e z h = let p = alone (a .lo) e in omega (arith, ints, p .0, p .1, h .in-a .from, h .in-b .from, h .in-b .to, h .related)
@@ -127,13 +136,13 @@ module _ (a b : Span) where
 
   unequal : LeastOf (Left a Unequal b) (spanned (a .lo +ℤ truth (only b (a .lo))) (a .hi -ℤ truth (only b (a .hi))))
   unequal =
-    let t = only b (a .lo) in
-    let u = only b (a .hi) in
-    least-by (Left a Unequal b) (a .lo +ℤ truth t) (a .hi -ℤ truth u)
-    (le-trans (a .low) (more t (a .lo)))
-    (le-trans (fewer u (a .hi)) (a .high))
-    (λ z h. (past-lo t refl z h, before-hi u refl z h))
-    (λ e. (from-lo t refl (le-trans e (fewer u (a .hi))), from-hi u refl (le-trans (more t (a .lo)) e)))
+      let t = only b (a .lo) in
+      let u = only b (a .hi) in
+      least-by (Left a Unequal b) (a .lo +ℤ truth t) (a .hi -ℤ truth u)
+      (le-trans (a .low) (more t (a .lo)))
+      (le-trans (fewer u (a .hi)) (a .high))
+      (λ z h. (past-lo t refl z h, before-hi u refl z h))
+      (λ e. (from-lo t refl (le-trans e (fewer u (a .hi))), from-hi u refl (le-trans (more t (a .lo)) e)))
 
 -- what narrowing answers is the least span of what is left, or none where nothing is
 pub narrowed-least : (a : Span) (rel : Relation) (b : Span) → LeastOf (Left a rel b) (narrowed a rel b)
