@@ -3,3 +3,4 @@ pub mod Covering
 pub mod Narrow
 pub mod Compare
 pub mod Results
+pub mod SpanLaws

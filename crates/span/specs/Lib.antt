@@ -1,3 +1,4 @@
 pub mod Ends
 pub mod Works
 pub mod Means
+pub mod Model

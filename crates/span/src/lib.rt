@@ -2,6 +2,7 @@
 ghost use lib.Signed.{_≤ℤ_};
 ghost use Rattle.number.specs.Exact.{least, greatest};
 
+pub mod interface;
 mod making;
 pub mod narrowing;
 pub mod working;
