@@ -10,7 +10,7 @@ use Rattle.std.specs.Orderings.{Decides}
 use Rattle.std.specs.declared.option.Option.{Option}
 use Rattle.std.specs.declared.option.Option.the-variants.{Some, None}
 use Rattle.std.proofs.shelf.Signed.{ints, clamps}
-use Rattle.std.proofs.shelf.Tests.{both-ways, and-parts, and-cases, or-cases, or-parts, not-from-true, not-false, not-true}
+use Rattle.std.proofs.shelf.Tests.{both-ways, and-parts, and-cases, or-cases, or-parts, not-from-true, not-false, not-true, cases-bool}
 use Rattle.std.proofs.shelf.Ways.{not-from-decides}
 use Rattle.number.specs.declared.Relation.{Relation}
 use Rattle.number.specs.declared.Relation.the-variants.{Less, AtMost, Equal, Unequal, Greater, AtLeast}
@@ -48,7 +48,7 @@ pair-of : (a b : Span) (so : ℤ → ℤ → Type 0) (x y : ℤ) → Within a x 
 pair-of a b so x y p q h = record { x = x; y = y; in-a = p; in-b = q; pair = h }
 
 unequal-test : (x y : ℤ) → (x ≡ y → ⊥) → eqZ x y ≡ false
-unequal-test x y n = ⊎-elim (λ e. absurd (n (eq-from-test e))) (λ e. e) (Rattle.std.proofs.shelf.Tests.cases-bool (eqZ x y))
+unequal-test x y n = ⊎-elim (λ e. absurd (n (eq-from-test e))) (λ e. e) (cases-bool (eqZ x y))
 
 -- where it fails, some pair is not so related
 pub not-always : (rel : Relation) (a b : Span) → always rel a b ≡ false → Some-pair a b (λ x y. holds rel x y ≡ false)

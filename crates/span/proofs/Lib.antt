@@ -4,3 +4,4 @@ pub mod Narrow
 pub mod Compare
 pub mod Results
 pub mod SpanLaws
+pub mod Worked

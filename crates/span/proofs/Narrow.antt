@@ -152,3 +152,6 @@ narrowed-least a Equal b = equal a b
 narrowed-least a Unequal b = unequal a b
 narrowed-least a Greater b = greater a b
 narrowed-least a AtLeast b = at-least a b
+
+pub narrowed-as : (a : Span) (rel : Relation) (b : Span) (r : Option Span) → r ≡ narrowed a rel b → record { value : r ≡ narrowed a rel b; means : LeastOf (Left a rel b) r }
+narrowed-as a rel b r e = record { value = e; means = subst (LeastOf (Left a rel b)) (sym e) (narrowed-least a rel b) }

@@ -235,3 +235,6 @@ works-worked IsLess a b = compared IsLess Less a b (λ _ _. refl) (λ _ _. refl)
 works-worked IsAtMost a b = compared IsAtMost AtMost a b (λ _ _. refl) (λ _ _. refl)
 works-worked IsEqual a b = compared IsEqual Equal a b (λ _ _. refl) (λ _ _. refl)
 works-worked IsUnequal a b = compared IsUnequal Unequal a b (λ _ _. refl) (λ _ _. refl)
+
+pub worked-as : (op : Op) (a b : Span) (r : Span × Bool × Bool) → r ≡ works op a b → record { value : r ≡ works op a b; means : Worked op a b r }
+worked-as op a b r e = record { value = e; means = subst (Worked op a b) (sym e) (works-worked op a b) }

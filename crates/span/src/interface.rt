@@ -1,5 +1,12 @@
 // Spans as a domain.
+ghost use mathlib.Core.Path.{_≡_};
+ghost use mathlib.Core.Bool.{true, false};
+ghost use lib.IntN.{pos, negsuc};
+ghost use Rattle.std.specs.declared.option.Option.the-variants.{Some};
 ghost use Rattle.span.specs.Ends.{Within};
+ghost use Rattle.span.specs.Examples.{Examples, to};
+ghost use Rattle.span.specs.Means.{LeastOf, Left, Worked};
+ghost use Rattle.span.specs.Works.{narrowed, works};
 ghost use Rattle.span.specs.Model.{span-ops};
 use crate::Span;
 use crate::narrowing;
@@ -40,11 +47,29 @@ pub impl Domain for Span as SpanDomain {
         Span::covers(a, b)
     }
 
-    fn work(op: Op, a: Span, b: Span) -> (Span, bool, bool) {
+    fn work(op: Op, a: Span, b: Span) -> (Span, bool, bool)
+        ensures value { λ r. ⌜ r ≡ works op a b ⌝ }
+        ensures means { λ r. ⌜ Worked op a b r ⌝ }
+    {
         working::work(op, a, b)
     }
 
-    fn narrow(a: Span, rel: Relation, b: Span) -> Option<Span> {
+    fn narrow(a: Span, rel: Relation, b: Span) -> Option<Span>
+        ensures value { λ r. ⌜ r ≡ narrowed a rel b ⌝ }
+        ensures means { λ r. ⌜ LeastOf (Left a rel b) r ⌝ }
+    {
         narrowing::narrow(a, rel, b)
     }
+}
+
+/// The product of −3..2 and −4..5, which is −15..12, and what is left of −5..5 by ≠ and 0..0, which is −5..5.
+pub fn examples() -> ((Span, bool, bool), Option<Span>)
+    ensures product { λ r. ⌜ r .0 ≡ (to (negsuc 14) (pos 12), false, false) ⌝ }
+    ensures hole { λ r. ⌜ r .1 ≡ Some (to (negsuc 4) (pos 5)) ⌝ }
+    ensures table { λ _. ⌜ Examples ⌝ }
+{
+    (
+        working::work(Op::Mul, Span::value(-3, 2), Span::value(-4, 5)),
+        narrowing::narrow(Span::value(-5, 5), Relation::Unequal, Span::value(0, 0)),
+    )
 }

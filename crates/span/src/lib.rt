@@ -4,8 +4,8 @@ ghost use Rattle.number.specs.Exact.{least, greatest};
 
 pub mod interface;
 mod making;
-pub mod narrowing;
-pub mod working;
+mod narrowing;
+mod working;
 
 /// The integers from `lo` to `hi`, both of 32 bits.
 #[derive(Clone, Copy)]

@@ -43,7 +43,7 @@ fn cornered(op: Op, a: Span, b: Span) -> Option<Span>
 }
 
 /// Whether the relation holds between every integer of `a` and every integer of `b`.
-pub fn always(rel: Relation, a: Span, b: Span) -> bool
+fn always(rel: Relation, a: Span, b: Span) -> bool
     ensures { λ r. ⌜ r ≡ always rel a b ⌝ }
 {
     match rel {
