@@ -15,6 +15,8 @@ use domain::Domain;
 use number::Op;
 use number::Relation;
 
+const WIDTH: usize = 8;
+
 /// The cell of every integer: the least and the greatest, the lowest byte first.
 const BLANK: [u8; 8] = [0, 0, 0, 128, 255, 255, 255, 127];
 
@@ -24,11 +26,11 @@ pub impl Domain for Span as SpanDomain {
     ghost ops = { span-ops };
 
     fn width() -> usize {
-        8
+        WIDTH
     }
 
     fn blank(index: usize) -> u8 {
-        if index < 8 { BLANK[index] } else { 0 }
+        if index < WIDTH { BLANK[index] } else { 0 }
     }
 
     fn read(cell: &[u8]) -> Option<Span> {

@@ -28,18 +28,11 @@ impl Span {
         })
     }
 
-    /// The least integer of the span.
-    pub fn lo(self) -> i32
-        ensures { λ r. ⌜ r ≡ self .lo ⌝ }
+    /// The least and the greatest integer of the span.
+    pub fn ends(self) -> (i32, i32)
+        ensures { λ r. ⌜ r ≡ (self .lo, self .hi) ⌝ }
     {
-        self.lo
-    }
-
-    /// The greatest integer of the span.
-    pub fn hi(self) -> i32
-        ensures { λ r. ⌜ r ≡ self .hi ⌝ }
-    {
-        self.hi
+        (self.lo, self.hi)
     }
 
     /// Every integer of 32 bits.
@@ -53,7 +46,7 @@ impl Span {
     }
 
     /// The span, or every integer where there is none.
-    pub fn or_whole(span: Option<Span>) -> Span
+    pub(crate) fn or_whole(span: Option<Span>) -> Span
         ensures { λ r. ⌜ r ≡ orWhole span ⌝ }
     {
         match span {
@@ -70,7 +63,7 @@ impl Span {
     }
 
     /// Whether the span describes `z`.
-    pub fn has(self, z: i32) -> bool
+    pub(crate) fn has(self, z: i32) -> bool
         ensures value { λ r. ⌜ r ≡ has self z ⌝ }
         ensures means { λ r. ⌜ Decides r (Within self z) ⌝ }
     {
