@@ -2,10 +2,13 @@
 ghost use lib.Signed.{_≤ℤ_};
 ghost use Rattle.number.specs.Exact.{least, greatest};
 
-pub mod interface;
+mod interface;
 mod making;
 mod narrowing;
 mod working;
+
+pub use interface::SpanDomain;
+pub use interface::examples;
 
 /// The integers from `lo` to `hi`, both of 32 bits.
 #[derive(Clone, Copy)]
