@@ -17,11 +17,11 @@ use Rattle.number.specs.declared.Relation.the-variants.{Less, AtMost, Equal, Un
 use Rattle.number.specs.Exact.{least, greatest, holds, opposite, truth, eqZ}
 use Rattle.number.specs.Means.{Related}
 use Rattle.number.proofs.Order.{le-refl, le-trans, le-from-test, lt-from-test, lt-from-no-le, le-from-no-lt, le-antisym, no-le-from-lt, no-lt-from-le, test-from-eq, eq-from-test}
-use Rattle.number.proofs.Meaning.{decides-holds, holds-opposite}
+use Rattle.number.proofs.Meaning.{decides-holds, holds-opposite, opposes}
 use Rattle.span.specs.declared.Span.{Span}
 use Rattle.span.specs.Ends.{Within, spanned, orWhole}
 use Rattle.span.specs.Works.{always, verdict, judged}
-use Rattle.span.specs.Means.{LeastSpan, LeastOf, Some-pair, Every-pair}
+use Rattle.span.specs.Means.{LeastSpan, LeastOf, Some-pair, Every-pair, Judged}
 use Rattle.span.proofs.Covering.{within-lo, within-hi}
 use Rattle.span.proofs.Narrow.{least-by}
 
@@ -69,6 +69,35 @@ not-always Unequal a b t =
     (not-from-true (eqZ z z) (test-from-eq {a = z} {b = z} refl))
 not-always Greater a b t = pair-of a b (λ x y. holds Greater x y ≡ false) (a .lo) (b .hi) (within-lo a) (within-hi b) t
 not-always AtLeast a b t = pair-of a b (λ x y. holds AtLeast x y ≡ false) (a .lo) (b .hi) (within-lo a) (within-hi b) t
+
+-- "always" is every pair
+pub decides-always : (rel : Relation) (a b : Span) → Decides (always rel a b) (Every-pair a b (Related rel))
+decides-always rel a b = (
+  always-related rel a b,
+  λ all. ⊎-elim
+      (λ t. t)
+      (λ f. let w = not-always rel a b f in absurd (both-ways (holds rel (w .x) (w .y)) (w .pair) (decides-holds rel (w .x) (w .y) .1 (all (w .x) (w .y) (w .in-a) (w .in-b)))))
+      (cases-bool (always rel a b)),
+)
+
+not-every : (rel : Relation) (a b : Span) → Some-pair a b (λ x y. Related rel x y → ⊥) → always rel a b ≡ false
+not-every rel a b w = ⊎-elim
+    (λ t. absurd (w .pair (always-related rel a b t (w .x) (w .y) (w .in-a) (w .in-b))))
+    (λ f. f)
+    (cases-bool (always rel a b))
+
+pub judged-judged : (rel : Relation) (a b : Span) → Judged rel a b (judged rel a b)
+judged-judged rel a b = record {
+  every = λ all. ap (λ t. verdict t (always (opposite rel) a b)) (decides-always rel a b .1 all);
+  none = λ no-pair.
+      let f = not-every rel a b (record { x = a .lo; y = b .lo; in-a = within-lo a; in-b = within-lo b; pair = λ r. no-pair (record { x = a .lo; y = b .lo; in-a = within-lo a; in-b = within-lo b; pair = r }) }) in
+      let t = decides-always (opposite rel) a b .1 (λ x y p q. opposes rel x y .1 (λ r. no-pair (record { x = x; y = y; in-a = p; in-b = q; pair = r }))) in
+      ap (λ v. verdict v (always (opposite rel) a b)) f ∙ ap (verdict false) t;
+  mixed = λ w n.
+      let f = not-every rel a b n in
+      let g = not-every (opposite rel) a b (record { x = w .x; y = w .y; in-a = w .in-a; in-b = w .in-b; pair = λ o. opposes rel (w .x) (w .y) .0 o (w .pair) }) in
+      ap (λ v. verdict v (always (opposite rel) a b)) f ∙ ap (verdict false) g;
+}
 
 -- the results of a comparison
 abbrev pub Truths : Relation → Span → Span → ℤ → Type 0

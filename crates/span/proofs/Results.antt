@@ -24,11 +24,11 @@ use Rattle.number.proofs.Order.{le-refl, le-trans, le-or-lt, lt-not-le, fits-fr
 use Rattle.span.specs.declared.Span.{Span}
 use Rattle.span.specs.Ends.{Within, areEnds, spanned, has, whole, orWhole}
 use Rattle.span.specs.Works.{lowest, highest, cornered, ranged, warned, judged, works}
-use Rattle.span.specs.Means.{LeastSpan, LeastOf, Some-pair, Results, Worked}
+use Rattle.span.specs.Means.{LeastSpan, LeastOf, Some-pair, Results, Worked, Compared}
 use Rattle.span.proofs.Made.{Made, one, none, spanned-made, are-ends, ends-parts}
 use Rattle.span.proofs.Covering.{within-lo, within-hi, decides-has}
 use Rattle.span.proofs.Narrow.{least-by, least-by-ends}
-use Rattle.span.proofs.Compare.{or-whole-least, judged-least}
+use Rattle.span.proofs.Compare.{or-whole-least, judged-least, judged-judged}
 
 -- ---- integers of a span are of 32 bits
 
@@ -236,5 +236,15 @@ works-worked IsAtMost a b = compared IsAtMost AtMost a b (λ _ _. refl) (λ _ _.
 works-worked IsEqual a b = compared IsEqual Equal a b (λ _ _. refl) (λ _ _. refl)
 works-worked IsUnequal a b = compared IsUnequal Unequal a b (λ _ _. refl) (λ _ _. refl)
 
-pub worked-as : (op : Op) (a b : Span) (r : Span × Bool × Bool) → r ≡ works op a b → record { value : r ≡ works op a b; means : Worked op a b r }
-worked-as op a b r e = record { value = e; means = subst (Worked op a b) (sym e) (works-worked op a b) }
+pub works-compared : (op : Op) (a b : Span) → Compared op a b (works op a b .0)
+works-compared Add a b = tt
+works-compared Sub a b = tt
+works-compared Mul a b = tt
+works-compared Div a b = tt
+works-compared IsLess a b = judged-judged Less a b
+works-compared IsAtMost a b = judged-judged AtMost a b
+works-compared IsEqual a b = judged-judged Equal a b
+works-compared IsUnequal a b = judged-judged Unequal a b
+
+pub worked-as : (op : Op) (a b : Span) (r : Span × Bool × Bool) → r ≡ works op a b → record { value : r ≡ works op a b; means : Worked op a b r; compares : Compared op a b (r .0) }
+worked-as op a b r e = record { value = e; means = subst (Worked op a b) (sym e) (works-worked op a b); compares = subst (λ t. Compared op a b (t .0)) (sym e) (works-compared op a b) }

@@ -45,6 +45,10 @@ abbrev pub orWhole : Option Span → Span
 orWhole (Some s) = s
 orWhole None = whole
 
+-- lo..hi
+abbrev pub to : ℤ → ℤ → Span
+to lo hi = orWhole (spanned lo hi)
+
 -- the test whether a span describes z
 abbrev pub has : Span → ℤ → Bool
 has s z = leZ (s .lo) z && leZ z (s .hi)

@@ -4,7 +4,7 @@ use Prim.Native.Nat.{ℕ}
 use lib.ListN.{getD}
 use Rattle.domain.specs.Model.{Ops}
 use Rattle.span.specs.declared.Span.{Span}
-use Rattle.span.specs.Ends.{covers, orWhole, readSpan, spanned, whole}
+use Rattle.span.specs.Ends.{covers, readSpan, to, whole}
 use Rattle.span.specs.Works.{narrowed, works}
 
 -- the cell of every integer: the least and the greatest, the lowest byte first
@@ -17,7 +17,7 @@ span-ops = record {
   blank = λ i. getD blankCell i 0;
   reads = readSpan;
   anything = whole;
-  value = λ lo hi. orWhole (spanned lo hi);
+  value = to;
   covers = covers;
   works = works;
   narrows = narrowed;

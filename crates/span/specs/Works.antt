@@ -11,7 +11,7 @@ use Rattle.number.specs.declared.Relation.{Relation}
 use Rattle.number.specs.declared.Relation.the-variants.{Less, AtMost, Equal, Unequal, Greater, AtLeast}
 use Rattle.number.specs.Exact.{least, exact, eqZ, opposite, truth}
 use Rattle.span.specs.declared.Span.{Span}
-use Rattle.span.specs.Ends.{has, spanned, whole, orWhole}
+use Rattle.span.specs.Ends.{has, orWhole, spanned, to, whole}
 
 -- ---- corners
 
@@ -50,9 +50,9 @@ always AtLeast a b = leZ (b .hi) (a .lo)
 
 -- 1 where it always holds, 0 where its opposite does, else 0 or 1
 abbrev pub verdict : Bool → Bool → Span
-verdict true never = orWhole (spanned (pos 1) (pos 1))
-verdict false true = orWhole (spanned (pos 0) (pos 0))
-verdict false false = orWhole (spanned (pos 0) (pos 1))
+verdict true never = to (pos 1) (pos 1)
+verdict false true = to (pos 0) (pos 0)
+verdict false false = to (pos 0) (pos 1)
 
 abbrev pub judged : Relation → Span → Span → Span
 judged rel a b = verdict (always rel a b) (always (opposite rel) a b)

@@ -3,9 +3,9 @@ ghost use mathlib.Core.Path.{_≡_};
 ghost use mathlib.Core.Bool.{true, false};
 ghost use lib.IntN.{pos, negsuc};
 ghost use Rattle.std.specs.declared.option.Option.the-variants.{Some};
-ghost use Rattle.span.specs.Ends.{Within};
-ghost use Rattle.span.specs.Examples.{Examples, to};
-ghost use Rattle.span.specs.Means.{LeastOf, Left, Worked};
+ghost use Rattle.span.specs.Ends.{Within, to};
+ghost use Rattle.span.specs.Examples.{Examples};
+ghost use Rattle.span.specs.Means.{Compared, LeastOf, Left, Worked};
 ghost use Rattle.span.specs.Works.{narrowed, works};
 ghost use Rattle.span.specs.Model.{span-ops};
 use crate::Span;
@@ -52,6 +52,7 @@ pub impl Domain for Span as SpanDomain {
     fn work(op: Op, a: Span, b: Span) -> (Span, bool, bool)
         ensures value { λ r. ⌜ r ≡ works op a b ⌝ }
         ensures means { λ r. ⌜ Worked op a b r ⌝ }
+        ensures compares { λ r. ⌜ Compared op a b (r .0) ⌝ }
     {
         working::work(op, a, b)
     }

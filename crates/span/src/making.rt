@@ -1,7 +1,7 @@
 // The making of spans, in one place, and their ends.
 ghost use mathlib.Core.Path.{_≡_};
 ghost use Rattle.std.specs.Orderings.{Decides};
-ghost use Rattle.span.specs.Ends.{Covers, Within, covers, has, orWhole, readSpan, spanned, whole as wholeSpan};
+ghost use Rattle.span.specs.Ends.{Covers, Within, covers, has, orWhole, readSpan, spanned, to, whole as wholeSpan};
 use crate::Span;
 
 const LEAST: i64 = -2147483648;
@@ -57,7 +57,7 @@ impl Span {
 
     /// The span from `lo` to `hi`, or every integer where `lo > hi`.
     pub fn value(lo: i32, hi: i32) -> Span
-        ensures { λ r. ⌜ r ≡ orWhole (spanned lo hi) ⌝ }
+        ensures { λ r. ⌜ r ≡ to lo hi ⌝ }
     {
         Span::or_whole(Span::between(i64::from(lo), i64::from(hi)))
     }
