@@ -26,6 +26,7 @@ Keeps describes x (Some v) = describes v x
 Keeps describes x None = ⊥
 
 module _ {V : Type 0} (describes : V → ℤ → Type 0) (o : Ops V) where
+  -- what the values describe, and which cover which
   pub record Order : Type 0 where
     pub anything-describes : (z : ℤ) → Int32 z → describes (o .anything) z
     pub anything-covers : (a : V) → o .covers (o .anything) a ≡ true
@@ -40,12 +41,15 @@ module _ {V : Type 0} (describes : V → ℤ → Type 0) (o : Ops V) where
     pub range-warned : (op : Op) (a b : V) (x y : ℤ) → Int32 x → Int32 y → describes a x → describes b y → o .works op a b .2 ≡ false → rangeTrap op x y ≡ false
     pub result-described : (op : Op) (a b : V) (x y : ℤ) → Int32 x → Int32 y → describes a x → describes b y → zeroTrap op x y ≡ false → rangeTrap op x y ≡ false → describes (o .works op a b .0) (exact op x y)
 
+  -- narrowing loses no integer that stands in the relation to one that b describes
   pub record Narrowing : Type 0 where
     pub kept : (a : V) (rel : Relation) (b : V) (x y : ℤ) → Int32 x → Int32 y → describes a x → describes b y → holds rel x y ≡ true → Keeps describes x (o .narrows a rel b)
 
 module _ {V : Type 0} (o : Ops V) where
+  -- only a cell of the width is read, and the blank cell reads as anything
   pub record Reading : Type 0 where
     pub width-small : o .width ≤ 64
+    -- a blank byte is a byte, as its type says in the code
     pub blank-byte : (i : ℕ) → o .blank i < 256
     pub blank-beyond : (i : ℕ) → o .width ≤ i → o .blank i ≡ 0
     pub blank-reads : o .width ≢ 0 → o .reads (blanks o) ≡ Some (o .anything)

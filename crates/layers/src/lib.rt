@@ -2,3 +2,4 @@
 // Each is a domain by the laws of those below and nothing else of them.
 pub mod nonzero;
 pub mod pair;
+pub mod pile;

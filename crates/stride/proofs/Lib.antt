@@ -1,0 +1,4 @@
+pub mod Multiples
+pub mod Made
+pub mod StrideLaws
+pub mod RuleProofs

@@ -1,0 +1,4 @@
+pub mod Fitting
+pub mod Divisors
+pub mod Strides
+pub mod Rules
