@@ -2,10 +2,10 @@
 use mathlib.Core.Path.{_≡_, refl, sym, ap, subst, _∙_}
 use mathlib.Core.Bool.{Bool, true, false, not, _&&_}
 use mathlib.Core.Logic.{_⊎_, inl, inr, ⊎-elim, _↔_}
-use Prim.Native.Nat.{ℕ, zero, suc}
+use Prim.Native.Nat.{ℕ, zero, suc, _/_}
 use native.Mathlib.Omega.{arith}
-use lib.IntN.{ℤ, pos, negsuc}
-use lib.Signed.{ltZ, leZ, _≤ℤ_, _<ℤ_}
+use lib.IntN.{ℤ, pos, negsuc, negℤ, natAbs}
+use lib.Signed.{ltZ, leZ, quotZ, _≤ℤ_, _<ℤ_}
 use Rattle.std.specs.Orderings.{Decides}
 use Rattle.std.proofs.shelf.Signed.{ints}
 use Rattle.std.proofs.shelf.Tests.{and-parts, and-from, cases-bool, both-ways, not-true, not-from-false, and-right}
@@ -22,7 +22,7 @@ use Rattle.number.specs.declared.Trap.{Trap}
 use Rattle.number.specs.declared.Trap.the-variants.{Zero, Range}
 use Rattle.number.specs.Codes.{opCoded, relationCoded, opCode, relationCode}
 use Rattle.number.specs.Exact.{Int32, fits32, eqZ, holds, mirrored, opposite, exact, divides, zeroTrap, rangeTrap, orElse, worked}
-use Rattle.number.specs.Means.{Related, Mirrors, Opposes, Decodes, DividesByZero, Answers}
+use Rattle.number.specs.Means.{Related, Mirrors, Opposes, Decodes, DividesByZero, Answers, TowardZero}
 use Rattle.number.proofs.Order.{decides-le, decides-lt, decides-eq, decides-fits, le-of-lt, lt-not-le, fits-from-test, test-from-fits, eq-from-test, test-from-eq}
 
 -- ---- relations
@@ -213,3 +213,21 @@ module _ (op : Op) (x y : ℤ) where
 
   pub answers : Answers op x y (worked op x y)
   answers = answers-by (zeroTrap op x y) (fits32 (exact op x y)) (decides-zero op x y) (decides-fits (exact op x y))
+
+-- ---- quotients
+
+turned : (n : ℕ) → natAbs (negℤ (pos n)) ≡ n
+turned zero = refl
+turned (suc n) = refl
+
+false-is-not-true : false ≡ true → ⊥
+false-is-not-true e = both-ways false refl e
+
+pub toward-zero : (x y : ℤ) → TowardZero x y (quotZ x y)
+toward-zero (pos a) (pos b) = record { size = refl; alike = λ _. omega (arith, ints); unlike = λ n. absurd (n refl) }
+toward-zero (pos a) (negsuc b) = record { size = turned (a / suc b); alike = λ e. absurd (false-is-not-true (sym e)); unlike = λ _. omega (arith, ints) }
+toward-zero (negsuc a) (pos b) = record { size = turned (suc a / b); alike = λ e. absurd (false-is-not-true e); unlike = λ _. omega (arith, ints) }
+toward-zero (negsuc a) (negsuc b) = record { size = refl; alike = λ _. omega (arith, ints); unlike = λ n. absurd (n refl) }
+
+pub quotient-as : (x y r : ℤ) → r ≡ quotZ x y → record { value : r ≡ quotZ x y; means : TowardZero x y r }
+quotient-as x y r e = record { value = e; means = subst (TowardZero x y) (sym e) (toward-zero x y) }

@@ -1,9 +1,9 @@
 -- The rules of the operations and relations, in plain statements about all integers. Assumes nothing.
 use mathlib.Core.Path.{_≡_}
 use mathlib.Core.Logic.{_↔_}
-use Prim.Native.Nat.{ℕ, _≤_}
-use lib.IntN.{ℤ, pos, negsuc}
-use lib.Signed.{_≤ℤ_, _<ℤ_}
+use Prim.Native.Nat.{ℕ, _/_}
+use lib.IntN.{ℤ, pos, negsuc, natAbs}
+use lib.Signed.{nonNeg, _≤ℤ_, _<ℤ_}
 use Rattle.std.specs.declared.option.Option.{Option}
 use Rattle.std.specs.declared.option.Option.the-variants.{Some, None}
 use Rattle.std.specs.declared.result.Result.{Result}
@@ -48,6 +48,13 @@ pub record Answers (op : Op) (x y : ℤ) (r : Result ℤ Trap) : Type 0 where
   pub zero : r ≡ Err Zero ↔ DividesByZero op y
   pub range : r ≡ Err Range ↔ ((DividesByZero op y → ⊥) × (Int32 (exact op x y) → ⊥))
   pub done : (z : ℤ) → r ≡ Ok z ↔ ((DividesByZero op y → ⊥) × (Int32 z) × (z ≡ exact op x y))
+
+-- q is x ÷ y with the fraction dropped, toward zero: its size is that of x by that of y, rounded down, and it is
+-- not negative where x and y are both negative or both not, else not positive
+pub record TowardZero (x y q : ℤ) : Type 0 where
+  pub size : natAbs q ≡ natAbs x / natAbs y
+  pub alike : nonNeg x ≡ nonNeg y → pos 0 ≤ℤ q
+  pub unlike : (nonNeg x ≡ nonNeg y → ⊥) → q ≤ℤ pos 0
 
 -- a few operations worked out
 pub record Examples : Type 0 where

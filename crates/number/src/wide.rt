@@ -2,6 +2,7 @@
 ghost use mathlib.Core.Path.{_≡_};
 ghost use lib.IntN.{_+ℤ_, _-ℤ_, _*ℤ_};
 ghost use lib.Signed.{quotZ};
+ghost use Rattle.number.specs.Means.{TowardZero};
 ghost use Rattle.number.specs.Exact.{inRange, truth as truthOf};
 use crate::Trap;
 
@@ -25,7 +26,8 @@ pub fn product(a: i32, b: i32) -> i64
 
 /// Toward zero; by 0 it means nothing, and is 0.
 pub fn quotient(a: i32, b: i32) -> i64
-    ensures { λ r. ⌜ r ≡ quotZ a b ⌝ }
+    ensures value { λ r. ⌜ r ≡ quotZ a b ⌝ }
+    ensures means { λ r. ⌜ TowardZero a b r ⌝ }
 {
     if b == 0 { 0 } else { a as i64 / b as i64 }
 }

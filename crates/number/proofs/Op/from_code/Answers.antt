@@ -4,7 +4,6 @@ use Prim.Native.Nat.{ℕ}
 use Rattle.std.specs.declared.option.Option.{Option}
 use Rattle.std.specs.declared.option.Option.the-variants.{Some, None}
 use Rattle.number.specs.declared.Op.{Op}
-use Rattle.number.specs.declared.Op.the-variants.{Add, Sub, Mul, Div, IsLess, IsAtMost, IsEqual, IsUnequal}
 use Rattle.number.specs.Codes.{opCoded, opCode}
 use Rattle.number.specs.Means.{Decodes}
 use Rattle.number.proofs.Meaning.{op-decodes}
@@ -14,25 +13,25 @@ read-as : (code : ℕ) (r : Option Op) → r ≡ opCoded code → record { value
 read-as code r e = record { value = e; means = subst (Decodes opCode code) (sym e) (op-decodes code) }
 
 pub returns-in-0 : need.returns-in-0
-returns-in-0 c = read-as (c .args .code) (Some Add) (search needs)
+returns-in-0 c = read-as (c .args .code) _ (search needs)
 
 pub returns-in-1 : need.returns-in-1
-returns-in-1 c = read-as (c .args .code) (Some Sub) (search needs)
+returns-in-1 c = read-as (c .args .code) _ (search needs)
 
 pub returns-in-2 : need.returns-in-2
-returns-in-2 c = read-as (c .args .code) (Some Mul) (search needs)
+returns-in-2 c = read-as (c .args .code) _ (search needs)
 
 pub returns-in-3 : need.returns-in-3
-returns-in-3 c = read-as (c .args .code) (Some Div) (search needs)
+returns-in-3 c = read-as (c .args .code) _ (search needs)
 
 pub returns-in-4 : need.returns-in-4
-returns-in-4 c = read-as (c .args .code) (Some IsLess) (search needs)
+returns-in-4 c = read-as (c .args .code) _ (search needs)
 
 pub returns-in-5 : need.returns-in-5
-returns-in-5 c = read-as (c .args .code) (Some IsAtMost) (search needs)
+returns-in-5 c = read-as (c .args .code) _ (search needs)
 
 pub returns-in-6 : need.returns-in-6
-returns-in-6 c = read-as (c .args .code) (Some IsEqual) (search needs)
+returns-in-6 c = read-as (c .args .code) _ (search needs)
 
 pub returns-in-7 : need.returns-in-7
-returns-in-7 c = read-as (c .args .code) (Some IsUnequal) (search needs)
+returns-in-7 c = read-as (c .args .code) _ (search needs)

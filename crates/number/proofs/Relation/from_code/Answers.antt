@@ -4,7 +4,6 @@ use Prim.Native.Nat.{ℕ}
 use Rattle.std.specs.declared.option.Option.{Option}
 use Rattle.std.specs.declared.option.Option.the-variants.{Some, None}
 use Rattle.number.specs.declared.Relation.{Relation}
-use Rattle.number.specs.declared.Relation.the-variants.{Less, AtMost, Equal, Unequal, Greater, AtLeast}
 use Rattle.number.specs.Codes.{relationCoded, relationCode}
 use Rattle.number.specs.Means.{Decodes}
 use Rattle.number.proofs.Meaning.{relation-decodes}
@@ -14,19 +13,19 @@ read-as : (code : ℕ) (r : Option Relation) → r ≡ relationCoded code → re
 read-as code r e = record { value = e; means = subst (Decodes relationCode code) (sym e) (relation-decodes code) }
 
 pub returns-in-0 : need.returns-in-0
-returns-in-0 c = read-as (c .args .code) (Some Less) (search needs)
+returns-in-0 c = read-as (c .args .code) _ (search needs)
 
 pub returns-in-1 : need.returns-in-1
-returns-in-1 c = read-as (c .args .code) (Some AtMost) (search needs)
+returns-in-1 c = read-as (c .args .code) _ (search needs)
 
 pub returns-in-2 : need.returns-in-2
-returns-in-2 c = read-as (c .args .code) (Some Equal) (search needs)
+returns-in-2 c = read-as (c .args .code) _ (search needs)
 
 pub returns-in-3 : need.returns-in-3
-returns-in-3 c = read-as (c .args .code) (Some Unequal) (search needs)
+returns-in-3 c = read-as (c .args .code) _ (search needs)
 
 pub returns-in-4 : need.returns-in-4
-returns-in-4 c = read-as (c .args .code) (Some Greater) (search needs)
+returns-in-4 c = read-as (c .args .code) _ (search needs)
 
 pub returns-in-5 : need.returns-in-5
-returns-in-5 c = read-as (c .args .code) (Some AtLeast) (search needs)
+returns-in-5 c = read-as (c .args .code) _ (search needs)
