@@ -53,8 +53,20 @@ Leads s Stop s′ = ⊥
 Leads s (Assign x n t) s′ = s′ ≡ at t (set (s .locals) x n)
 Leads s (Go t) s′ = s′ ≡ at t (s .locals)
 
--- The machine takes exactly the steps of the rules: whatever the row, the inputs and the state (32-bit
--- integers in it), and whatever a take may take.
+-- the integer that a put sets is one of 32 bits
+abbrev pub RowFits : Row → Type 0
+RowFits End = Unit {0}
+RowFits (Put x n t) = Int32 n
+RowFits (Take x k t) = Unit {0}
+RowFits (Work x op a b t) = Unit {0}
+RowFits (Fork rel a b t u) = Unit {0}
+
+-- whatever an input may give is an integer of 32 bits
+abbrev pub SetsFit : List Input → Type 0
+SetsFit inputs = (k : ℕ) (z : ℤ) → mayGive inputs k z ≡ true → Int32 z
+
+-- The machine takes exactly the steps of the rules, from every state and whatever a take may take, where the
+-- integers of the row and of the inputs are of 32 bits.
 pub record Faithful (row : Row) (inputs : List Input) (s : Spot) : Type 0 where
   -- an act leads only where a step goes
   pub sound : (c : ℤ) → Int32 c → MayTake inputs row c → (act : Act) → actAt row (s .locals) c ≡ Ok act → (s′ : Spot) → Leads s act s′ → Goes inputs row s s′
