@@ -1,4 +1,5 @@
 pub mod Imp
 pub mod Inputs
 pub mod Runs
+pub mod Shown
 pub mod Steps
