@@ -177,8 +177,17 @@ abbrev trapIn : {A : Type 0} → Trap → Result A Trap → Trap
 trapIn k (Ok x) = k
 trapIn k (Err j) = j
 
-err-same : {A : Type 0} {j k : Trap} → _≡_ {A = Result A Trap} (Err j) (Err k) → j ≡ k
+pub err-same : {A : Type 0} {j k : Trap} → _≡_ {A = Result A Trap} (Err j) (Err k) → j ≡ k
 err-same {j} e = ap (trapIn j) e
+
+pub assign-goes-on : {x t : ℕ} {n : ℤ} → _≡_ {A = Result Act Trap} (Ok (Assign x n t)) (Ok Stop) → ⊥
+assign-goes-on e = let n : _≡_ {A = ℕ} 0 1 = cc in omega arith
+
+pub go-goes-on : {t : ℕ} → _≡_ {A = Result Act Trap} (Ok (Go t)) (Ok Stop) → ⊥
+go-goes-on e = let n : _≡_ {A = ℕ} 0 1 = cc in omega arith
+
+pub no-trap : {act : Act} {r : Trap} → _≡_ {A = Result Act Trap} (Ok act) (Err r) → ⊥
+no-trap e = err-is-not-ok (sym e)
 
 -- ---- sound
 
@@ -248,12 +257,6 @@ module _ (inputs : List Input) (s : Spot) where
 
   -- ---- ends
 
-  assign-goes-on : {x t : ℕ} {n : ℤ} → _≡_ {A = Result Act Trap} (Ok (Assign x n t)) (Ok Stop) → ⊥
-  assign-goes-on e = let n : _≡_ {A = ℕ} 0 1 = cc in omega arith
-
-  go-goes-on : {t : ℕ} → _≡_ {A = Result Act Trap} (Ok (Go t)) (Ok Stop) → ⊥
-  go-goes-on e = let n : _≡_ {A = ℕ} 0 1 = cc in omega arith
-
   ends : (row : Row) (c : ℤ) → (actAt row locals c ≡ Ok Stop → Ends inputs row) × (Ends inputs row → actAt row locals c ≡ Ok Stop)
   ends End c = (λ _. refl, λ _. refl)
   ends (Put x n t) c = (λ e. absurd (assign-goes-on e), λ e. absurd (not-done e))
@@ -263,9 +266,6 @@ module _ (inputs : List Input) (s : Spot) where
   ends (Fork rel a b t u) c = (λ e. absurd (go-goes-on e), λ e. absurd (branch-not-done e))
 
   -- ---- traps
-
-  no-trap : {act : Act} {r : Trap} → _≡_ {A = Result Act Trap} (Ok act) (Err r) → ⊥
-  no-trap e = err-is-not-ok (sym e)
 
   -- a work's act traps where the operation does
   trap-of : (x t : ℕ) (r : Result ℤ Trap) (k : Trap) → andThen r (λ z. Ok (Assign x z t)) ≡ Err k → r ≡ Err k

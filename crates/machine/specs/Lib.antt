@@ -1,5 +1,4 @@
 pub mod Imp
 pub mod Inputs
 pub mod Runs
-pub mod Shown
 pub mod Steps

@@ -1,9 +1,11 @@
 // The state of a run: a place, and an integer for each variable.
+ghost use mathlib.Core.List.{List};
 ghost use mathlib.Core.Path.{_≡_};
 ghost use lib.ListN.{set};
 ghost use Rattle.machine.specs.Imp.{lookUp};
 ghost use Rattle.machine.specs.Runs.{start as startSpot};
-ghost use Rattle.machine.specs.Shown.{shown, placed, changed, outcomeOf, afterStep, ActFits};
+ghost use Rattle.machine.specs.Steps.{shown, placed, changed, outcomeOf, afterStep, ActFits, SetsFit, Told};
+ghost use Rattle.machine.specs.declared.Input.{Input};
 use crate::Act;
 use crate::MAX_VARIABLES;
 use crate::Row;
@@ -46,6 +48,19 @@ impl State {
         ensures { λ r. ⌜ r ≡ lookUp (shown (now (self .entry)) .locals) x ⌝ }
     {
         if x < MAX_VARIABLES { self.values[x] } else { 0 }
+    }
+
+    /// Takes the step of `row`, where a take takes `taken`, and says how it came out.
+    /// An end or a trap leaves the state as it was.
+    pub fn step(&mut self, row: Row, taken: i32) -> Outcome
+        ensures outcome { λ r. ⌜ r ≡ outcomeOf row (shown (now (self .entry))) taken ⌝ }
+        ensures state { λ _. ⌜ shown (now (self .exit)) ≡ afterStep row (shown (now (self .entry))) taken ⌝ }
+        ensures told { λ r. ⌜ ((inputs : List Input) → SetsFit inputs → Told inputs row (shown (now (self .entry))) taken r (shown (now (self .exit)))) ⌝ }
+    {
+        let (left, right) = row.operands();
+        let a = self.value(usize::from(left));
+        let b = self.value(usize::from(right));
+        self.follow(row.act(a, b, taken))
     }
 
     // Does what an act says, and says how that came out. An end or a trap leaves the state as it was.
