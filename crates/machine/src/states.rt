@@ -3,9 +3,10 @@ ghost use mathlib.Core.List.{List};
 ghost use mathlib.Core.Path.{_≡_};
 ghost use lib.ListN.{set};
 ghost use Rattle.machine.specs.Imp.{lookUp};
-ghost use Rattle.machine.specs.Runs.{start as startSpot};
+ghost use Rattle.machine.specs.Runs.{at, start as startSpot};
 ghost use Rattle.machine.specs.Steps.{shown, placed, changed, outcomeOf, afterStep, ActFits, SetsFit, Told};
 ghost use Rattle.machine.specs.declared.Input.{Input};
+ghost use Rattle.machine.specs.declared.states.Outcome.the-variants.{At};
 use crate::Act;
 use crate::MAX_VARIABLES;
 use crate::Row;
@@ -79,21 +80,23 @@ impl State {
                 },
             ) => {
                 self.assign(usize::from(target), value);
-                self.place = next;
-                Outcome::At {
-                    place: usize::from(next),
-                }
+                self.go(next)
             }
-            Ok(Act::Go { next }) => {
-                self.place = next;
-                Outcome::At {
-                    place: usize::from(next),
-                }
-            }
+            Ok(Act::Go { next }) => self.go(next),
             Err(trap) => Outcome::Trapped {
                 trap,
-                place: usize::from(self.place),
+                place: self.place(),
             },
+        }
+    }
+
+    fn go(&mut self, next: u8) -> Outcome
+        ensures outcome { λ r. ⌜ r ≡ At next ⌝ }
+        ensures state { λ _. ⌜ shown (now (self .exit)) ≡ at next (now (self .entry) .values) ⌝ }
+    {
+        self.place = next;
+        Outcome::At {
+            place: usize::from(next),
         }
     }
 
