@@ -207,7 +207,7 @@ module _ (inputs : List Input) (s : Spot) where
       let ev = subst (λ k. Eval locals (condition rel a b) (truth k)) h (tested rel locals a b) in
       subst (Goes inputs (Fork rel a b t u) s) (sym l) (failed refl ev)
 
-  sound : (row : Row) → RowFits row → (c : ℤ) → Int32 c → MayTake inputs row c → (act : Act) → actAt row locals c ≡ Ok act → (s′ : Spot) → Leads s act s′ → Goes inputs row s s′
+  pub sound : (row : Row) → RowFits row → (c : ℤ) → Int32 c → MayTake inputs row c → (act : Act) → actAt row locals c ≡ Ok act → (s′ : Spot) → Leads s act s′ → Goes inputs row s s′
   sound End f c i may act e s′ l = absurd (led s s′ Stop e l)
   sound (Put x n t) f c i may act e s′ l =
       subst (Goes inputs (Put x n t) s) (sym (led s s′ (Assign x n t) e l)) (assigned refl (pick (test-from-eq {a = n} refl)) f)
@@ -240,7 +240,7 @@ module _ (inputs : List Input) (s : Spot) where
   abbrev Led : Row → Spot → Type 0
   Led row s′ = (c : ℤ) × (act : Act) × Int32 c × MayTake inputs row c × (actAt row locals c ≡ Ok act) × Leads s act s′
 
-  complete : (row : Row) (s′ : Spot) → Goes inputs row s s′ → Led row s′
+  pub complete : (row : Row) (s′ : Spot) → Goes inputs row s s′ → Led row s′
   complete End s′ g = absurd (goes-done inputs End s refl g)
   complete (Put x n t) s′ g =
       goes-assign
@@ -257,7 +257,7 @@ module _ (inputs : List Input) (s : Spot) where
 
   -- ---- ends
 
-  ends : (row : Row) (c : ℤ) → (actAt row locals c ≡ Ok Stop → Ends inputs row) × (Ends inputs row → actAt row locals c ≡ Ok Stop)
+  pub ends : (row : Row) (c : ℤ) → (actAt row locals c ≡ Ok Stop → Ends inputs row) × (Ends inputs row → actAt row locals c ≡ Ok Stop)
   ends End c = (λ _. refl, λ _. refl)
   ends (Put x n t) c = (λ e. absurd (assign-goes-on e), λ e. absurd (not-done e))
   ends (Take x k t) c = (λ e. absurd (assign-goes-on e), λ e. absurd (not-done e))
@@ -276,7 +276,7 @@ module _ (inputs : List Input) (s : Spot) where
   traps-work x op a b t Zero e = zero refl (by-zero locals op a b e)
   traps-work x op a b t Range e = let far = too-far locals op a b e in range refl (far .1) (far .2)
 
-  traps-back : (row : Row) → RowFits row → SetsFit inputs → (c : ℤ) (k : Trap) → Traps inputs row s k → actAt row locals c ≡ Err k
+  pub traps-back : (row : Row) → RowFits row → SetsFit inputs → (c : ℤ) (k : Trap) → Traps inputs row s k → actAt row locals c ≡ Err k
   traps-back End f fits c k h = absurd (traps-done inputs End s refl h)
   traps-back (Put x n t) f fits c k h =
       absurd (traps-assign inputs (Put x n t) s refl h (λ d e. elim d [ ]) (λ r ev far e. far (subst Int32 (eq-from-test {a = n} {b = r} (picked ev)) f)))
@@ -289,7 +289,7 @@ module _ (inputs : List Input) (s : Spot) where
       (λ r ev far e. ap (λ q. andThen q (λ z. Ok (Assign x z t))) (too-far-back locals op a b r ev far ∙ ap Err (sym e)))
   traps-back (Fork rel a b t u) f fits c k h = absurd (traps-branch inputs (Fork rel a b t u) s refl h)
 
-  traps-forth : (row : Row) (c : ℤ) (k : Trap) → actAt row locals c ≡ Err k → Traps inputs row s k
+  pub traps-forth : (row : Row) (c : ℤ) (k : Trap) → actAt row locals c ≡ Err k → Traps inputs row s k
   traps-forth End c k e = absurd (no-trap e)
   traps-forth (Put x n t) c k e = absurd (no-trap e)
   traps-forth (Take x j t) c k e = absurd (no-trap e)

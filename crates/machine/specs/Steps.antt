@@ -120,7 +120,9 @@ pub record Told (inputs : List Input) (row : Row) (s : Spot) (c : ℤ) (o : Outc
   pub goes : (p : ℕ) → o ≡ At p → (s′ .place ≡ p) × (MayTake inputs row c → Goes inputs row s s′)
   -- ended exactly where the run ends
   pub ends : o ≡ Ended ↔ Ends inputs row
-  -- trapped exactly as the step does, at the row's place
-  pub traps : (t : Trap) → o ≡ Trapped t (s .place) ↔ Traps inputs row s t
+  -- trapped: at the row's place, and so does the step
+  pub trapped : (t : Trap) (p : ℕ) → o ≡ Trapped t p → (p ≡ s .place) × Traps inputs row s t
+  -- and wherever the step traps
+  pub traps : SetsFit inputs → (t : Trap) → Traps inputs row s t → o ≡ Trapped t (s .place)
   -- unless it goes on, the state is as it was
   pub stays : ((p : ℕ) → o ≡ At p → ⊥) → s′ ≡ s

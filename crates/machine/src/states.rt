@@ -4,7 +4,7 @@ ghost use mathlib.Core.Path.{_≡_};
 ghost use lib.ListN.{set};
 ghost use Rattle.machine.specs.Imp.{lookUp};
 ghost use Rattle.machine.specs.Runs.{at, start as startSpot};
-ghost use Rattle.machine.specs.Steps.{shown, placed, changed, outcomeOf, afterStep, ActFits, SetsFit, Told};
+ghost use Rattle.machine.specs.Steps.{shown, placed, changed, outcomeOf, afterStep, ActFits, Told};
 ghost use Rattle.machine.specs.declared.Input.{Input};
 ghost use Rattle.machine.specs.declared.states.Outcome.the-variants.{At};
 use crate::Act;
@@ -56,7 +56,7 @@ impl State {
     pub fn step(&mut self, row: Row, taken: i32) -> Outcome
         ensures outcome { λ r. ⌜ r ≡ outcomeOf row (shown (now (self .entry))) taken ⌝ }
         ensures state { λ _. ⌜ shown (now (self .exit)) ≡ afterStep row (shown (now (self .entry))) taken ⌝ }
-        ensures told { λ r. ⌜ ((inputs : List Input) → SetsFit inputs → Told inputs row (shown (now (self .entry))) taken r (shown (now (self .exit)))) ⌝ }
+        ensures told { λ r. ⌜ ((inputs : List Input) → Told inputs row (shown (now (self .entry))) taken r (shown (now (self .exit)))) ⌝ }
     {
         let (left, right) = row.operands();
         let a = self.value(usize::from(left));

@@ -32,8 +32,8 @@ returns c =
     record {
       outcome = outcome;
       state = state;
-      told = λ inputs sets.
-          let t = told inputs (c .args .row) s (c .args .taken) (int32-of-width (c .fits .taken)) fits sets in
+      told = λ inputs.
+          let t = told inputs (c .args .row) s (c .args .taken) (int32-of-width (c .fits .taken)) fits in
           subst
           (λ o. Told inputs (c .args .row) s (c .args .taken) o (shown (c .follow .last .self)))
           (sym outcome)
