@@ -25,6 +25,10 @@ start = record { place = 0; locals = replicate 16 (pos 0) }
 abbrev pub at : ℕ → List ℤ → Spot
 at t locals = record { place = t; locals = locals }
 
+-- every integer of a list is one of 32 bits
+abbrev pub AllInt32 : List ℤ → Type 0
+AllInt32 xs = (i : ℕ) → Int32 (getD xs i (pos 0))
+
 -- one step from a state, by the statement that the row at its place stands for
 module _ (inputs : List Input) (row : Row) where
   pub data Goes (s : Spot) : Spot → Type 0 where

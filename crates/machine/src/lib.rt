@@ -1,6 +1,7 @@
 // A routine: what its rows do and where its inputs come from.
 // A row's number, from 0, is its place; variables and inputs go by their numbers too.
 // A routine has 1 to 16 variables, 0 to 8 inputs and 1 to 256 places.
+mod states;
 mod steps;
 mod words;
 
@@ -12,7 +13,10 @@ use number::Relation;
 use number::RelationDebug;
 use number::RelationEq;
 use number::RelationPartialEq;
+pub use states::Outcome;
+pub use states::State;
 pub use steps::Act;
+pub use steps::steps_are_faithful;
 pub use words::InputDisplay;
 pub use words::RowDisplay;
 

@@ -1,9 +1,12 @@
 // One step: what a row does to its operands.
+ghost use mathlib.Core.List.{List};
 ghost use mathlib.Core.Path.{_≡_};
 ghost use Rattle.std.specs.declared.result.Result.the-variants.{Ok};
 ghost use Rattle.scan.specs.Scan.{andThen};
 ghost use Rattle.machine.specs.declared.steps.Act.the-variants.{Assign};
-ghost use Rattle.machine.specs.Steps.{actOf, operands as operandsOf};
+ghost use Rattle.machine.specs.declared.Input.{Input};
+ghost use Rattle.machine.specs.Runs.{Spot};
+ghost use Rattle.machine.specs.Steps.{actOf, operands as operandsOf, RowFits, SetsFit, Faithful};
 use crate::Row;
 use number::Op;
 use number::Trap;
@@ -122,6 +125,11 @@ impl Row {
         }
     }
 }
+
+/// The acts of rows are exactly the steps that IMP's rules allow.
+pub fn steps_are_faithful()
+    ensures { λ _. ⌜ ((row : Row) (inputs : List Input) (s : Spot) → RowFits row → SetsFit inputs → Faithful row inputs s) ⌝ }
+{}
 
 // A variable set to a result, unless that is a trap.
 fn assigned(target: u8, result: Result<i32, Trap>, next: u8) -> Result<Act, Trap>
