@@ -3,4 +3,4 @@ pub mod Forks
 pub mod Landed
 pub mod Meeting
 pub mod Reading
-pub mod Taken
+pub mod Secured

@@ -11,4 +11,5 @@ mod routes;
 mod starts;
 mod verdicts;
 
+pub use verdicts::taken;
 pub use verdicts::verdict;

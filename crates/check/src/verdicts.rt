@@ -1,12 +1,13 @@
 // The verdict on a sheet.
 ghost use mathlib.Core.Path.{_≡_};
 ghost use Rattle.std.specs.Vec.{made};
+ghost use Rattle.sheet.specs.Format.{WellFormed};
 ghost use Rattle.sheet.specs.Views.{seen};
 ghost use Rattle.domain.specs.Carrier.{asDom};
 ghost use Rattle.rules.specs.Faults.{Meets};
-ghost use Rattle.rules.specs.Safety.{SafeSheet};
+ghost use Rattle.rules.specs.Safety.{SafeParts, SafeSheet};
 ghost use Rattle.rules.specs.Tables.{tableRight, verdictOf};
-ghost use Rattle.check.specs.Grids.{partsIn};
+ghost use Rattle.check.specs.Grids.{partsIn, placesIn};
 ghost use Rattle.check.specs.Readable.{Readable};
 ghost use Rattle.check.specs.Scans.{claimsRight, tableHolds};
 use crate::entries::check_entries;
@@ -57,12 +58,23 @@ fn check_claims<D: Domain>(grid: &Grid<'_>) -> Result<(), Refusal>
 }
 
 // The format, and then the table.
-fn judge<D: Domain>(bytes: &[u8]) -> Result<usize, Refusal>
-    ensures { λ r. ⌜ Meets r (verdictOf (D·Domain .ops) (now (bytes .entry))) ⌝ }
+fn judge<D: Domain>(bytes: &[u8]) -> Result<Sheet<'_>, Refusal>
+    ensures value { λ r. ⌜ Meets (placesIn r) (verdictOf (D·Domain .ops) (now (bytes .entry))) ⌝ }
+    ensures formed { λ r. ⌜ made r (λ s. WellFormed (now (bytes .entry)) (seen s)) ⌝ }
 {
     let sheet = Sheet::read(bytes)?;
     check_table::<D>(sheet)?;
-    Ok(sheet.places)
+    Ok(sheet)
+}
+
+/// The sheet that the bytes are, if it is taken in a domain; else the first rule that it breaks.
+/// Its routine is safe: its table describes every state that it reaches, and none traps.
+pub fn taken<D: Domain>(bytes: &[u8]) -> Result<Sheet<'_>, Refusal>
+    ensures value { λ r. ⌜ Meets (placesIn r) (verdictOf (D·Domain .ops) (now (bytes .entry))) ⌝ }
+    ensures formed { λ r. ⌜ made r (λ s. WellFormed (now (bytes .entry)) (seen s)) ⌝ }
+    ensures safe { λ r. ⌜ made r (λ s. SafeParts (asDom D (D·Domain .describes) (D·Domain .ops)) (seen s)) ⌝ }
+{
+    judge::<D>(bytes)
 }
 
 /// The verdict on a sheet in a domain: taken, with its number of places, or the first rule that it breaks.
@@ -71,5 +83,8 @@ pub fn verdict<D: Domain>(bytes: &[u8]) -> Result<usize, Refusal>
     ensures value { λ r. ⌜ Meets r (verdictOf (D·Domain .ops) (now (bytes .entry))) ⌝ }
     ensures safe { λ r. ⌜ made r (λ _. SafeSheet (asDom D (D·Domain .describes) (D·Domain .ops)) (now (bytes .entry))) ⌝ }
 {
-    judge::<D>(bytes)
+    match taken::<D>(bytes) {
+        Ok(sheet) => Ok(sheet.places),
+        Err(refusal) => Err(refusal),
+    }
 }

@@ -24,13 +24,17 @@ pub record Safe {V : Type 0} (describes : V → ℤ → Type 0) (r : Routine) (c
   pub described : (s : Spot) → Reachable r s → Described describes (r .variables) claims s
   pub untrapped : (s : Spot) → Reachable r s → (t : Trap) → Trapped (r .inputs) (r .rows) s t → ⊥
 
+-- the routine of a sheet is safe by its table
+abbrev pub SafeParts : Dom → Parts → Type 0
+SafeParts d s = Safe (d .describes) (routineOf s) (claimsOf (d .ops) (tableOf (d .ops) s))
+
 -- The check of a domain takes only what is safe: whatever the bytes of a sheet, if the verdict is that it is taken,
 -- then with as many places as it has, and its routine is safe by its table.
 abbrev pub TakenIsSafe : Dom → Type 0
 TakenIsSafe d =
     (bs : List ℕ) (n : ℕ) (s : Parts) → AllBytes bs → sheetOf bs ≡ Ok s → verdictOf (d .ops) bs ≡ Ok n
-    → (n ≡ s .places) × Safe (d .describes) (routineOf s) (claimsOf (d .ops) (tableOf (d .ops) s))
+    → (n ≡ s .places) × SafeParts d s
 
 -- the bytes are a sheet, and its routine is safe by its table
 abbrev pub SafeSheet : Dom → List ℕ → Type 0
-SafeSheet d bs = (s : Parts) × (sheetOf bs ≡ Ok s) × Safe (d .describes) (routineOf s) (claimsOf (d .ops) (tableOf (d .ops) s))
+SafeSheet d bs = (s : Parts) × (sheetOf bs ≡ Ok s) × SafeParts d s

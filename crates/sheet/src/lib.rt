@@ -10,9 +10,6 @@ mod words;
 
 pub use parts::Part;
 pub use refusals::Refusal;
-pub use refusals::RefusalDebug;
-pub use refusals::RefusalEq;
-pub use refusals::RefusalPartialEq;
 pub use refusals::Report;
 pub use refusals::ReportDebug;
 pub use refusals::ReportEq;

@@ -3,7 +3,7 @@ ghost use mathlib.Core.Path.{_≡_};
 ghost use Rattle.sheet.specs.Refusals.{numbers};
 
 /// A refusal: which rule failed, and where.
-#[derive(Clone, Copy, PartialEq, Eq, Debug)]
+#[derive(Clone, Copy)]
 pub enum Refusal {
     /// 1: the sheet has under 28 or over 1,048,576 bytes.
     SheetSize,
@@ -64,6 +64,20 @@ pub enum Refusal {
         way: usize,
         variable: usize,
     },
+    /// 16: set names no setting.
+    NoSetting,
+    /// 17: the value to set is outside the setting's set.
+    SettingOutside,
+    /// 18: the reading given is outside the set of the input that is taken.
+    ReadingOutside,
+    /// 19: show names no variable.
+    NoVariable,
+    /// 21: nothing is held.
+    NothingHeld,
+    /// 22: the routine runs.
+    Running,
+    /// 23: the routine does not run.
+    NotRunning,
 }
 
 /// A refusal as four numbers. What a refusal does not name is 0.
@@ -100,6 +114,13 @@ impl Refusal {
                 way,
                 variable,
             } => (15, place, way, variable),
+            Refusal::NoSetting => (16, 0, 0, 0),
+            Refusal::SettingOutside => (17, 0, 0, 0),
+            Refusal::ReadingOutside => (18, 0, 0, 0),
+            Refusal::NoVariable => (19, 0, 0, 0),
+            Refusal::NothingHeld => (21, 0, 0, 0),
+            Refusal::Running => (22, 0, 0, 0),
+            Refusal::NotRunning => (23, 0, 0, 0),
         };
         Report {
             number,

@@ -74,6 +74,13 @@ pub impl fmt::Display for Refusal as RefusalDisplay {
                 f,
                 "way {way} from {place} leads to an entry that does not cover v{variable}"
             ),
+            Refusal::NoSetting => write!(f, "no setting has that number"),
+            Refusal::SettingOutside => write!(f, "the value is outside the set of the setting"),
+            Refusal::ReadingOutside => write!(f, "the reading is outside the set of its input"),
+            Refusal::NoVariable => write!(f, "no variable has that number"),
+            Refusal::NothingHeld => write!(f, "the bay holds nothing"),
+            Refusal::Running => write!(f, "the routine runs"),
+            Refusal::NotRunning => write!(f, "the routine does not run"),
         }
     }
 }

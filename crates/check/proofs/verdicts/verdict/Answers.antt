@@ -1,11 +1,9 @@
-use Rattle.rules.proofs.Sheets.{safe-by-laws}
-use Rattle.check.proofs.Taken.{taken-safe}
+use Rattle.check.proofs.Secured.{sheet-safe}
 use Rattle.check.proofs.verdicts.verdict.Needs as need
 
-pub returns : need.returns
-returns g c = record {
-  value = c .judge .ensures;
-  safe = taken-safe _ (g .D·Domain .describes) (g .D·Domain .ops)
-      (safe-by-laws (g .D·Domain·met .order) (g .D·Domain·met .reading) (g .D·Domain·met .working) (g .D·Domain·met .narrowing))
-      (c .args .bytes .now) (λ i. c .typed .bytes i .fits) (c .judge .result) (c .judge .ensures);
+pub returns-in-Ok : need.returns-in-Ok
+returns-in-Ok g c = record {
+  value = c .in-Ok .ensures tt .value;
+  safe = sheet-safe _ (g .D·Domain .describes) (g .D·Domain .ops) (c .args .bytes .now) (c .in-Ok .sheet)
+      (c .in-Ok .ensures tt .formed) (c .in-Ok .ensures tt .safe);
 }
