@@ -1,0 +1,19 @@
+// The bay: it holds one routine at a time, and is driven by six calls: offer, start, set, step, stop and show.
+// specs/ has the model of the bay and the rules of the calls; what is proved of every succession of calls is the
+// contract of `stands`.
+
+/// Whether the bay holds a routine, and whether that runs.
+#[derive(Clone, Copy)]
+pub enum Mode {
+    Empty,
+    Held,
+    Running,
+}
+
+/// What a bay shows: whether its routine runs, the place it is at, and the value of one variable.
+#[derive(Clone, Copy)]
+pub struct Shown {
+    pub running: bool,
+    pub place: usize,
+    pub value: i32,
+}
