@@ -4,3 +4,4 @@ pub mod Lifts
 pub mod Entries
 pub mod Paired
 pub mod Stays
+pub mod Puts

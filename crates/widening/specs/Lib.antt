@@ -1,2 +1,3 @@
 pub mod Widened
 pub mod Pairing
+pub mod Writes

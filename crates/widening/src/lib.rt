@@ -2,6 +2,8 @@
 ghost use Rattle.widening.specs.Pairing.{Pairing, StaysBytes};
 use domain::Domain;
 
+mod writes;
+
 /// Whatever is taken in a domain is taken, widened, in its pair with any other, and the widened sheet is made of bytes.
 pub fn pairing_keeps<A: Domain, B: Domain>()
     ensures taken { λ _. ⌜ Pairing (A·Domain .ops) (B·Domain .ops) ⌝ }
