@@ -5,3 +5,4 @@ pub mod Entries
 pub mod Paired
 pub mod Stays
 pub mod Puts
+pub mod Fitting

@@ -2,7 +2,7 @@
 use mathlib.Core.Path.{_≡_, refl, sym, ap, subst, _∙_}
 use mathlib.Core.List.{List, [], _∷_, _++_}
 use Prim.Native.Nat.{ℕ, _+_, _*_, _/_, _%_, _≤_, _<_}
-use native.Mathlib.Nat.{div-div-eq-div-mul}
+use native.Mathlib.Nat.{div-div-eq-div-mul, mul-le-mul}
 use native.Mathlib.Omega.{arith}
 use lib.ListN.{length, getD, take, drop, length-append}
 use Rattle.std.proofs.shelf.Lists.{take-at, take-all, drop-at, drop-drop}
@@ -17,6 +17,14 @@ digits n h =
     let q₂ : n / 65536 ≡ n / 256 / 256 = sym (div-div-eq-div-mul n 256 256) in
     let q₃ : n / 16777216 ≡ n / 256 / 256 / 256 = sym (div-div-eq-div-mul (n / 256) 256 256 ∙ div-div-eq-div-mul n 256 65536) in
     rw (q₂, q₃) (omega arith)
+
+-- at most 256 entries of a flag and 16 cells, each of at most 64 bytes of either domain
+pub small-table : (places variables width : ℕ) → places ≤ 256 → variables ≤ 16 → width ≤ 128 → places * (1 + variables * width) ≤ 1000000
+small-table places variables width h k l =
+    let cells : variables * width ≤ 16 * 128 = mul-le-mul k l in
+    let entry : 1 + variables * width ≤ 2049 = omega arith in
+    let all : places * (1 + variables * width) ≤ 256 * 2049 = mul-le-mul h entry in
+    omega arith
 
 -- what stands behind the head, in three parts
 module _ (head a b c : List ℕ) (size : length head ≡ 28) where

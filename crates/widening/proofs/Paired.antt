@@ -5,7 +5,6 @@ use mathlib.Core.Bool.{Bool, true, false, not}
 use mathlib.Core.List.{List}
 use mathlib.Core.Logic.{_≢_}
 use Prim.Native.Nat.{ℕ, _+_, _*_, _≤_, _<_}
-use native.Mathlib.Nat.{mul-le-mul}
 use native.Mathlib.Omega.{arith}
 use lib.Dec.{eqb}
 use lib.ListN.{length, getD}
@@ -32,17 +31,9 @@ use Rattle.rules.specs.Faults.{Fault, fixed, faulty}
 use Rattle.rules.specs.Tables.{routineOf, tableOf, claimsOf, tableFits, entriesRight, tableRight, verdictOf}
 use Rattle.widening.specs.Widened.{widenedTable, widenedParts, sheetBytes, widenedIn, widened}
 use Rattle.widening.specs.Pairing.{Pairing, PairingOf}
-use Rattle.widening.proofs.Moved.{moved-formed}
+use Rattle.widening.proofs.Moved.{small-table, moved-formed}
 use Rattle.widening.proofs.Lifts.{lifted, start-kept, places-kept}
 use Rattle.widening.proofs.Entries.{wide-table-sized, claims-are, entries-kept}
-
--- at most 256 entries of a flag and 16 cells of 64 bytes
-small-table : (places variables width : ℕ) → places ≤ 256 → variables ≤ 16 → width ≤ 64 → places * (1 + variables * width) ≤ 1000000
-small-table places variables width h k l =
-    let cells : variables * width ≤ 16 * 64 = mul-le-mul k l in
-    let entry : 1 + variables * width ≤ 1025 = omega arith in
-    let all : places * (1 + variables * width) ≤ 256 * 1025 = mul-le-mul h entry in
-    omega arith
 
 faulty-ok : {A : Type 0} (r : Result A Refusal) (x : A) → faulty r ≡ Ok x → r ≡ Ok x
 faulty-ok (Ok y) x e = ap Ok (ok-same e)

@@ -100,3 +100,19 @@ piece-room at n i w r u room e h k = let ends = piece-ends (w + u) n i h in rw e
 -- the same of an entry: a flag, and v cells
 pub entry-room : (at n i v w r u room : ℕ) → r ≡ u → i < n → at + n * (1 + v * (w + u)) ≤ room → at + i * (1 + v * (w + r)) + (1 + v * (w + u)) ≤ room
 entry-room at n i v w r u room e h k = let ends = piece-ends (1 + v * (w + u)) n i h in rw e (omega arith)
+
+-- four writes, each right after the one before, the first at the front
+pub put-four : (o o₁ o₂ o₃ o₄ : List ℕ) (n₁ n₂ n₃ : ℕ) (h a b c : List ℕ) → o₁ ≡ put o 0 h → o₂ ≡ put o₁ n₁ a → o₃ ≡ put o₂ n₂ b → o₄ ≡ put o₃ n₃ c
+    → n₁ ≡ length h → n₂ ≡ length h + length a → n₃ ≡ length h + length a + length b → length h + length a + length b + length c ≤ length o
+    → o₄ ≡ put o 0 (h ++ (a ++ (b ++ c)))
+put-four o o₁ o₂ o₃ o₄ n₁ n₂ n₃ h a b c e₁ e₂ e₃ e₄ k₁ k₂ k₃ room =
+    let l₂ = length-append h a in
+    let l₃ = length-append (h ++ a) b in
+    let two = put-both o o₁ o₂ 0 n₁ h a e₁ e₂ (omega arith) (omega arith) in
+    let three = put-both o o₂ o₃ 0 n₂ (h ++ a) b two e₃ (omega arith) (omega arith) in
+    let four = put-both o o₃ o₄ 0 n₃ ((h ++ a) ++ b) c three e₄ (omega arith) (omega arith) in
+    four ∙ ap (put o 0) (append-assoc (h ++ a) b c ∙ append-assoc h a (b ++ c))
+
+-- bytes written at the front
+pub put-front : (o ws : List ℕ) → put o 0 ws ≡ ws ++ drop (length ws) o
+put-front o ws = ap (λ n. ws ++ drop n o) (zero-add (length ws))

@@ -1,3 +1,4 @@
 pub mod Widened
 pub mod Pairing
 pub mod Writes
+pub mod Answers

@@ -1,20 +1,12 @@
--- What is written into a buffer, and what the writer answers. Assumes nothing.
-use mathlib.Core.Bool.{Bool, not}
+-- What is written into a buffer, piece by piece. Assumes nothing.
 use mathlib.Core.List.{List, [], _∷_, _++_}
 use Prim.Native.Nat.{ℕ, _+_, _*_}
-use lib.Dec.{eqb, leb}
 use lib.ListN.{length, getD, take, drop}
-use Rattle.std.specs.declared.result.Result.{Result}
-use Rattle.std.specs.declared.result.Result.the-variants.{Ok, Err}
-use Rattle.scan.specs.Scan.{andThen, Check, unless, chunk}
+use Rattle.scan.specs.Scan.{chunk}
 use Rattle.sheet.specs.Parts.{Parts}
-use Rattle.sheet.specs.Sheets.{sheetOf}
-use Rattle.sheet.specs.declared.refusals.Refusal.{Refusal}
-use Rattle.sheet.specs.declared.refusals.Refusal.the-variants.{NoWidth, TableSize}
 use Rattle.domain.specs.Model.{Ops}
 use Rattle.domain.specs.Laws.{blanks}
-use Rattle.layers.specs.Pairs.{pairWidth}
-use Rattle.widening.specs.Widened.{pieces, wordBytes, sheetBytes, widenedParts}
+use Rattle.widening.specs.Widened.{pieces, wordBytes}
 
 -- a buffer with some bytes written over its own from a place on
 abbrev pub put : List ℕ → ℕ → List ℕ → List ℕ
@@ -39,3 +31,9 @@ headWith variables inputCount inputs rows table =
     ++ ((wordBytes 28 ++ wordBytes inputs)
     ++ ((wordBytes (28 + inputs) ++ wordBytes rows)
     ++ (wordBytes (28 + inputs + rows) ++ wordBytes table)))
+
+-- a whole sheet whose parts stand one right after another, its table so widened
+abbrev pub sheetWith : {B : Type 0} → Ops B → ℕ → Parts → List ℕ
+sheetWith q width s =
+    headWith (s .variables) (s .inputCount) (length (s .inputs .bytes)) (length (s .rows .bytes)) (s .places * (1 + s .variables * (width + q .width)))
+    ++ (s .inputs .bytes ++ (s .rows .bytes ++ tableWith q width (s .variables) (s .table .bytes) (s .places)))
