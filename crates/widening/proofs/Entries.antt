@@ -1,13 +1,13 @@
 -- What the widened table claims: what the table claims, and nothing in the second domain.
 -- Assumes that both domains read cells of their width only, and that the second reads its blank cell as "anything".
 use mathlib.Core.Path.{_≡_, refl, sym, ap, ap₂, subst, _∙_}
-use mathlib.Core.Bool.{Bool, true, false, not, cond, _||_}
-use mathlib.Core.List.{List, [], _∷_, _++_}
-use mathlib.Core.Logic.{_≢_, ⊎-elim}
-use Prim.Native.Nat.{ℕ, zero, suc, _+_, _*_, _≤_, _<_}
+use mathlib.Core.Bool.{true, cond}
+use mathlib.Core.List.{List, [], _++_}
+use mathlib.Core.Logic.{⊎-elim}
+use Prim.Native.Nat.{ℕ, _+_, _*_, _≤_, _<_}
 use native.Mathlib.Omega.{arith}
 use lib.Dec.{eqb, ltb}
-use lib.ListN.{length, getD, take, drop, length-take, length-drop, length-append}
+use lib.ListN.{length, getD, drop, length-drop, length-append}
 use Rattle.std.specs.Options.{isSome, valueOr}
 use Rattle.std.specs.declared.option.Option.{Option}
 use Rattle.std.specs.declared.option.Option.the-variants.{Some, None}
@@ -21,13 +21,11 @@ use Rattle.sheet.specs.declared.refusals.Refusal.the-variants.{EntryFlag, CellU
 use Rattle.sheet.proofs.Formed.{chunk-length}
 use Rattle.domain.specs.Model.{Ops}
 use Rattle.domain.specs.Laws.{Reading, blanks}
-use Rattle.layers.specs.declared.pair.Pair.{Pair}
 use Rattle.layers.specs.Pairs.{bothOf, pairWidth, pairReads, pair-ops}
 use Rattle.layers.proofs.PairLaws.{Wide, pair-reading}
-use Rattle.rules.specs.Claims.{Claims}
-use Rattle.rules.specs.Faults.{Fault, fixed}
+use Rattle.rules.specs.Faults.{fixed}
 use Rattle.rules.specs.Tables.{Table, entryAt, flagAt, cellAt, tableOf, claimsOf, entryRight, entriesRight}
-use Rattle.widening.specs.Widened.{pieces, widenedCell, widenedEntry, widenedTable, widenedParts}
+use Rattle.widening.specs.Widened.{widenedCell, widenedEntry, widenedTable, widenedParts}
 use Rattle.widening.proofs.Joins.{length-pieces, chunk-pieces, chunk-past}
 use Rattle.widening.proofs.Lifts.{lifted, up-on, then-kept, test-kept, where-present}
 

@@ -1,14 +1,14 @@
 -- A sheet that can be widened: its length, what is answered, and what is written. Assumes nothing.
 use mathlib.Core.Path.{_≡_, refl, sym, ap, subst, _∙_}
-use mathlib.Core.Bool.{Bool, true, false, not, cond}
+use mathlib.Core.Bool.{not}
 use mathlib.Core.List.{List, _++_}
 use Prim.Native.Nat.{ℕ, _+_, _*_, _≤_, _<_}
 use native.Mathlib.Omega.{arith}
-use lib.Dec.{eqb, leb}
+use lib.Dec.{eqb}
 use lib.ListN.{length, drop}
 use Rattle.std.specs.declared.result.Result.the-variants.{Ok, Err}
 use Rattle.std.proofs.shelf.Tests.{eqb-true, le-leb, lt-leb, cond-true, cond-false}
-use Rattle.scan.specs.Scan.{andThen, unless}
+use Rattle.scan.specs.Scan.{unless}
 use Rattle.scan.proofs.Scans.{stage, held, ok-same}
 use Rattle.sheet.specs.Parts.{Parts}
 use Rattle.sheet.specs.Sheets.{sheetOf}
@@ -18,7 +18,7 @@ use Rattle.rules.specs.Tables.{tableOf}
 use Rattle.widening.specs.Widened.{headBytes, sheetBytes, widenedTable, widenedParts, widenedIn, widened}
 use Rattle.widening.specs.Writes.{put, headWith, tableWith, sheetWith}
 use Rattle.widening.specs.Answers.{tableSized, widthsRight, fitting, sized, widenAnswer}
-use Rattle.widening.specs.declared.WidenError.the-variants.{Refused, Short}
+use Rattle.widening.specs.declared.WidenError.the-variants.{Short}
 use Rattle.widening.proofs.Moved.{whole}
 use Rattle.widening.proofs.Puts.{put-front, table-with-sized}
 

@@ -1,12 +1,12 @@
 -- Pieces of one size, one after another. Assumes nothing.
-use mathlib.Core.Path.{_≡_, refl, sym, ap, subst, _∙_}
-use mathlib.Core.List.{List, [], _∷_, _++_}
+use mathlib.Core.Path.{_≡_, refl, ap, _∙_}
+use mathlib.Core.List.{List, [], _++_}
 use mathlib.Core.Logic.{⊎-elim}
-use Prim.Native.Nat.{ℕ, zero, suc, _+_, _*_, _-_, _≤_, _<_}
+use Prim.Native.Nat.{ℕ, zero, suc, _*_, _-_, _≤_, _<_}
 use native.Mathlib.Nat.{not-suc-le-zero, mul-le-mul-right}
 use native.Mathlib.Omega.{arith}
-use lib.ListN.{length, getD, take, drop, length-take, length-drop, length-append}
-use Rattle.std.proofs.shelf.Lists.{take-all, take-append-le, drop-at, drop-all, drop-append-le, getD-append-left, getD-append-right, nil-from-length}
+use lib.ListN.{length, take, drop, length-take, length-drop, length-append}
+use Rattle.std.proofs.shelf.Lists.{take-all, take-append-le, drop-at, drop-append-le, getD-append-left, getD-append-right, nil-from-length}
 use Rattle.std.proofs.shelf.Tests.{cases-lt}
 use Rattle.scan.specs.Scan.{chunk}
 use Rattle.scan.proofs.Pieces.{piece-ends}

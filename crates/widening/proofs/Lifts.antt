@@ -5,7 +5,7 @@ use mathlib.Core.List.{List}
 use Prim.Native.Nat.{ℕ, zero, suc, _<_}
 use lib.Dec.{eqb}
 use lib.IntN.{pos}
-use Rattle.std.proofs.shelf.Tests.{and-parts, and-from, and-left, not-true, not-from-false, false≢true}
+use Rattle.std.proofs.shelf.Tests.{and-parts, and-from, and-left, not-true, not-from-false}
 use Rattle.std.specs.declared.option.Option.{Option}
 use Rattle.std.specs.declared.option.Option.the-variants.{Some, None}
 use Rattle.std.specs.declared.result.Result.the-variants.{Ok}
@@ -17,13 +17,13 @@ use Rattle.machine.specs.Runs.{rowOn}
 use Rattle.machine.specs.declared.Input.{Input}
 use Rattle.machine.specs.declared.Row.{Row}
 use Rattle.machine.specs.declared.Row.the-variants.{End, Put, Take, Work, Fork}
-use Rattle.sheet.specs.declared.refusals.Refusal.the-variants.{StartUncovered, ZeroWarning, RangeWarning, EntryAbsent}
+use Rattle.sheet.specs.declared.refusals.Refusal.the-variants.{ZeroWarning, RangeWarning}
 use Rattle.domain.specs.Model.{Ops}
 use Rattle.layers.specs.declared.pair.Pair.{Pair}
 use Rattle.layers.specs.Pairs.{bothOf, pair-ops}
 use Rattle.rules.specs.Claims.{Claims}
-use Rattle.rules.specs.Faults.{Fault, fixed, uncovered}
-use Rattle.rules.specs.Ways.{Way, pass, go, changed, inputOn, meeting, forkWay, way, ways}
+use Rattle.rules.specs.Faults.{fixed}
+use Rattle.rules.specs.Ways.{Way, pass, go, changed, meeting, forkWay, way, ways}
 use Rattle.rules.specs.Checks.{Routine, allBelow, startRight, unwarned, covered, lands, wayRight, placeRight, placesRight}
 
 -- each cell with the same value of the second domain

@@ -1,15 +1,15 @@
 -- A sheet whose parts are moved up is well-formed where it was before. Assumes nothing.
-use mathlib.Core.Path.{_≡_, refl, sym, ap, subst, _∙_}
-use mathlib.Core.List.{List, [], _∷_, _++_}
+use mathlib.Core.Path.{_≡_, refl, sym, ap, _∙_}
+use mathlib.Core.List.{List, _++_}
 use Prim.Native.Nat.{ℕ, _+_, _*_, _/_, _%_, _≤_, _<_}
 use native.Mathlib.Nat.{div-div-eq-div-mul, mul-le-mul}
 use native.Mathlib.Omega.{arith}
-use lib.ListN.{length, getD, take, drop, length-append}
+use lib.ListN.{length, take, drop, length-append}
 use Rattle.std.proofs.shelf.Lists.{take-at, take-all, drop-at, drop-drop}
-use Rattle.sheet.specs.Bytes.{AllBytes, little}
-use Rattle.sheet.specs.Format.{WellFormed, Held}
-use Rattle.sheet.specs.Parts.{Region, Parts}
-use Rattle.widening.specs.Widened.{wordBytes, headBytes, sheetBytes, movedUp}
+use Rattle.sheet.specs.Bytes.{little}
+use Rattle.sheet.specs.Format.{WellFormed}
+use Rattle.sheet.specs.Parts.{Parts}
+use Rattle.widening.specs.Widened.{headBytes, sheetBytes, movedUp}
 
 -- a number below 2^32 is made up of its four digits in base 256
 pub digits : (n : ℕ) → n < 4294967296 → little (n % 256) (n / 256 % 256) (n / 65536 % 256) (n / 16777216 % 256) ≡ n

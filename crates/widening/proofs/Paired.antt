@@ -1,13 +1,13 @@
 -- What is taken in one domain is taken in its pair with any other. Assumes the reading laws of both, and of the second
 -- that its "anything" covers every value.
-use mathlib.Core.Path.{_≡_, refl, sym, ap, subst, _∙_}
-use mathlib.Core.Bool.{Bool, true, false, not}
+use mathlib.Core.Path.{_≡_, sym, ap, subst}
+use mathlib.Core.Bool.{true, not}
 use mathlib.Core.List.{List}
 use mathlib.Core.Logic.{_≢_}
-use Prim.Native.Nat.{ℕ, _+_, _*_, _≤_, _<_}
+use Prim.Native.Nat.{ℕ, _+_, _*_}
 use native.Mathlib.Omega.{arith}
 use lib.Dec.{eqb}
-use lib.ListN.{length, getD}
+use lib.ListN.{length}
 use Rattle.std.specs.declared.result.Result.{Result}
 use Rattle.std.specs.declared.result.Result.the-variants.{Ok, Err}
 use Rattle.std.proofs.shelf.Tests.{eqb-true, eq-eqb, ne-eqb, not-from-false}
@@ -16,9 +16,9 @@ use Rattle.scan.proofs.Scans.{stage, then-on, held, passes, ok-same, err-is-not
 use Rattle.sheet.specs.Bytes.{AllBytes}
 use Rattle.sheet.specs.Format.{WellFormed}
 use Rattle.sheet.specs.Parts.{Parts}
-use Rattle.sheet.specs.Sheets.{sheetOf, Fits}
+use Rattle.sheet.specs.Sheets.{sheetOf}
 use Rattle.sheet.specs.declared.refusals.Refusal.{Refusal}
-use Rattle.sheet.specs.declared.refusals.Refusal.the-variants.{NoWidth, TableSize}
+use Rattle.sheet.specs.declared.refusals.Refusal.the-variants.{NoWidth}
 use Rattle.sheet.proofs.Accepted.{accepted}
 use Rattle.sheet.proofs.Formed.{formed-of}
 use Rattle.domain.specs.Model.{Ops}
@@ -27,7 +27,7 @@ use Rattle.domain.specs.Carrier.{Dom, Lawful}
 use Rattle.layers.specs.Pairs.{pairWidth, pair-ops}
 use Rattle.layers.proofs.PairLaws.{Wide, wide}
 use Rattle.rules.specs.Checks.{startRight, placesRight}
-use Rattle.rules.specs.Faults.{Fault, fixed, faulty}
+use Rattle.rules.specs.Faults.{fixed, faulty}
 use Rattle.rules.specs.Tables.{routineOf, tableOf, claimsOf, tableFits, entriesRight, tableRight, verdictOf}
 use Rattle.widening.specs.Widened.{widenedTable, widenedParts, sheetBytes, widenedIn, widened}
 use Rattle.widening.specs.Pairing.{Pairing, PairingOf}

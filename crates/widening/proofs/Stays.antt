@@ -1,11 +1,10 @@
 -- A widened sheet is made of bytes. Assumes that the blank bytes of the second domain are bytes.
-use mathlib.Core.Path.{_≡_, refl, sym, subst, _∙_}
-use mathlib.Core.List.{List, [], _∷_, _++_, map}
+use mathlib.Core.Path.{_≡_, refl, sym, subst}
+use mathlib.Core.List.{List, [], _∷_, _++_}
 use mathlib.Core.Logic.{⊎-elim}
-use Prim.Native.Nat.{ℕ, zero, suc, _+_, _*_, _/_, _%_, _≤_, _<_}
+use Prim.Native.Nat.{ℕ, zero, suc, _/_, _%_, _≤_, _<_}
 use native.Mathlib.Omega.{arith}
-use lib.ListN.{length, getD, take, drop}
-use Rattle.std.specs.Iters.{counting}
+use lib.ListN.{length, drop}
 use Rattle.std.specs.declared.result.Result.{Result}
 use Rattle.std.specs.declared.result.Result.the-variants.{Ok, Err}
 use Rattle.std.proofs.shelf.Counted.{length-map-counting, getD-map-counting}
@@ -21,7 +20,7 @@ use Rattle.sheet.proofs.Spelled.{bytes-chunk, bytes-take, bytes-drop}
 use Rattle.domain.specs.Model.{Ops}
 use Rattle.domain.specs.Laws.{Reading, blanks}
 use Rattle.rules.specs.Tables.{entrySize, entryAt, flagAt, cellAt, tableOf}
-use Rattle.widening.specs.Widened.{pieces, wordBytes, pairBytes, headBytes, sheetBytes, movedUp, widenedCell, widenedEntry, widenedTable, widenedParts, widenedIn}
+use Rattle.widening.specs.Widened.{pieces, wordBytes, pairBytes, headBytes, sheetBytes, widenedCell, widenedEntry, widenedTable, widenedParts, widenedIn}
 use Rattle.widening.specs.Pairing.{StaysBytes}
 use Rattle.widening.proofs.Joins.{append-bytes, pieces-bytes}
 

@@ -1,13 +1,15 @@
 // A sheet of one domain made into a sheet of its pair with a second, which takes whatever the first takes.
 ghost use mathlib.Core.Path.{_≡_};
 ghost use lib.ListN.{length};
+ghost use Rattle.layers.specs.Piles.{Pile, domOf};
 ghost use Rattle.widening.specs.Answers.{widenAnswer, afterwards};
-ghost use Rattle.widening.specs.Pairing.{Pairing, StaysBytes};
+ghost use Rattle.widening.specs.Pairing.{Pairing, PairingOf, StaysBytes};
 ghost use Rattle.widening.specs.Widened.{widened};
 use crate::sheets::fitting_parts;
 use crate::sheets::put_sheet;
 use crate::sheets::widened_len;
 use domain::Domain;
+use layers::pile::Domains;
 use sheet::Refusal;
 use sheet::RefusalDebug;
 use sheet::RefusalEq;
@@ -47,4 +49,9 @@ pub fn widen<A: Domain, B: Domain>(bytes: &[u8], out: &mut [u8]) -> Result<usize
 pub fn pairing_keeps<A: Domain, B: Domain>()
     ensures taken { λ _. ⌜ Pairing (A·Domain .ops) (B·Domain .ops) ⌝ }
     ensures bytes { λ _. ⌜ StaysBytes (A·Domain .ops) (B·Domain .ops) ⌝ }
+{}
+
+/// The same of any two piles of lawful domains.
+pub fn piles_pair<F: Domains>()
+    ensures { λ _. ⌜ ((a b : Pile) → PairingOf (domOf (F·Domains .doms) a) (domOf (F·Domains .doms) b)) ⌝ }
 {}

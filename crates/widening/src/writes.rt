@@ -1,7 +1,7 @@
 // Pieces of a widened sheet, each written over the bytes of a buffer from a place on.
-ghost use mathlib.Core.List.{List, [], _∷_, _++_};
+ghost use mathlib.Core.List.{_++_};
 ghost use mathlib.Core.Path.{_≡_};
-ghost use Prim.Native.Nat.{ℕ, _+_, _*_, _<_, _≤_};
+ghost use Prim.Native.Nat.{_+_, _*_, _<_, _≤_};
 ghost use lib.ListN.{length};
 ghost use Rattle.domain.specs.Laws.{blanks};
 ghost use Rattle.widening.specs.Widened.{wordBytes};

@@ -1,9 +1,7 @@
 use native.Mathlib.Omega.{arith}
 use mathlib.Core.List.{[], _∷_, _++_}
-use mathlib.Core.Path.{_≡_}
 use Prim.Native.Nat.{_+_}
 use Rattle.widening.specs.Widened.{wordBytes}
-use Rattle.widening.specs.Writes.{put}
 use Rattle.widening.proofs.Puts.{put-both}
 use Rattle.widening.proofs.writes.put_head.Needs as need
 

@@ -1,6 +1,6 @@
 use native.Mathlib.Omega.{arith}
 use Prim.Native.Nat.{_+_, _*_}
-use mathlib.Core.Path.{ap, ap₂, _∙_}
+use mathlib.Core.Path.{ap₂, _∙_}
 use lib.ListN.{length}
 use Rattle.scan.specs.Scan.{chunk}
 use Rattle.sheet.proofs.Formed.{chunk-length}
