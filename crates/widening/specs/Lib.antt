@@ -1,0 +1,4 @@
+pub mod Widened
+pub mod Pairing
+pub mod Writes
+pub mod Answers
