@@ -1,15 +1,15 @@
 -- The states that a run reaches, and what its steps keep. Assumes nothing.
-use mathlib.Core.Path.{_≡_, refl, ap, _∙_}
-use mathlib.Core.Bool.{true, false}
+use mathlib.Core.Path.{_≡_, refl, _∙_}
+use mathlib.Core.Bool.{false}
 use mathlib.Core.List.{List, [], _∷_}
 use Prim.Native.Nat.{ℕ, zero, suc}
 use lib.IntN.{ℤ, pos}
-use lib.ListN.{getD, length, set, replicate, length-set}
+use lib.ListN.{length, set, replicate, length-set}
 use lib.Signed.{leZ}
 use Rattle.std.proofs.shelf.Tests.{and-parts, both-ways}
 use Rattle.number.specs.Exact.{Int32}
 use Rattle.number.proofs.Order.{fits-from-test, le-from-test, le-trans}
-use Rattle.machine.specs.Inputs.{allows, mayGive, EndsFit}
+use Rattle.machine.specs.Inputs.{EndsFit}
 use Rattle.machine.specs.Runs.{Spot, start, AllInt32, Goes, assigned, held, failed, Step, Reaches, stays, onward}
 use Rattle.machine.specs.Steps.{SetsFit}
 use Rattle.machine.specs.declared.Input.{Input}

@@ -2,17 +2,17 @@
 use mathlib.Core.Path.{_≡_, refl, sym, ap, subst, _∙_}
 use mathlib.Core.Bool.{Bool, true, false, cond}
 use mathlib.Core.List.{List}
-use mathlib.Core.Logic.{_⊎_, inl, inr, ⊎-elim}
+use mathlib.Core.Logic.{⊎-elim}
 use Prim.Native.Nat.{ℕ}
 use native.Mathlib.Omega.{arith}
 use lib.IntN.{ℤ, pos}
-use lib.ListN.{getD, set}
+use lib.ListN.{set}
 use Rattle.std.proofs.shelf.Signed.{ints}
-use Rattle.std.proofs.shelf.Tests.{cases-bool, both-ways, cond-true, cond-false}
+use Rattle.std.proofs.shelf.Tests.{cases-bool, both-ways}
 use Rattle.std.specs.declared.result.Result.{Result}
 use Rattle.std.specs.declared.result.Result.the-variants.{Ok, Err}
 use Rattle.scan.specs.Scan.{andThen}
-use Rattle.scan.proofs.Scans.{err-is-not-ok, ok-same, stage, then-on}
+use Rattle.scan.proofs.Scans.{err-is-not-ok, ok-same, stage}
 use Rattle.number.specs.Exact.{Int32, eqZ, exact, holds, truth, worked, zeroTrap}
 use Rattle.number.specs.Means.{DividesByZero as ByZero, Answers}
 use Rattle.number.specs.declared.Op.{Op}
@@ -23,8 +23,7 @@ use Rattle.number.specs.declared.Trap.{Trap}
 use Rattle.number.specs.declared.Trap.the-variants.{Zero, Range}
 use Rattle.number.proofs.Order.{eq-from-test, test-from-eq, fits-from-test}
 use Rattle.number.proofs.Meaning.{answers, decides-zero}
-use Rattle.machine.specs.Imp.{Exp, among, var, apply, Eval, pick, look, work, DividesByZero, here, left, right, Stmt, assign, branch, done, condition, means, lookUp}
-use Rattle.machine.specs.Inputs.{mayGive}
+use Rattle.machine.specs.Imp.{Exp, among, var, apply, Eval, pick, look, work, DividesByZero, here, left, right, assign, branch, done, condition, means, lookUp}
 use Rattle.machine.specs.Runs.{Spot, at, Goes, assigned, held, failed, Ends, Traps, zero, range}
 use Rattle.machine.specs.Steps.{actAt, MayTake, Leads, RowFits, SetsFit, Faithful}
 use Rattle.machine.specs.declared.Input.{Input}

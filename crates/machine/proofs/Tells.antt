@@ -6,7 +6,6 @@ use native.Mathlib.Omega.{arith}
 use lib.IntN.{ℤ}
 use Rattle.std.specs.declared.result.Result.{Result}
 use Rattle.std.specs.declared.result.Result.the-variants.{Ok, Err}
-use Rattle.scan.proofs.Scans.{err-is-not-ok}
 use Rattle.number.specs.Exact.{Int32}
 use Rattle.number.specs.declared.Trap.{Trap}
 use Rattle.machine.specs.Runs.{Spot, Traps}
@@ -14,7 +13,6 @@ use Rattle.machine.specs.Steps.{actAt, RowFits, SetsFit, placed, changed, ActF
 use Rattle.machine.specs.declared.Input.{Input}
 use Rattle.machine.specs.declared.Row.{Row}
 use Rattle.machine.specs.declared.Row.the-variants.{End, Put, Take, Work, Fork}
-use Rattle.machine.specs.declared.states.Outcome.{Outcome}
 use Rattle.machine.specs.declared.states.Outcome.the-variants.{At, Ended, Trapped}
 use Rattle.machine.specs.declared.steps.Act.{Act}
 use Rattle.machine.specs.declared.steps.Act.the-variants.{Stop, Assign, Go}
