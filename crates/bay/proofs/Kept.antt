@@ -91,7 +91,7 @@ goes-on (assign x e t) = 1
 goes-on (branch e t u) = 1
 goes-on finished = 0
 
-no-row : (inputs : List Input) (s : Spot) (t : Trap) → Traps inputs End s t → ⊥
+pub no-row : (inputs : List Input) (s : Spot) (t : Trap) → Traps inputs End s t → ⊥
 no-row inputs s t (zero e d) = let n : _≡_ {A = ℕ} 0 1 = ap goes-on e in omega arith
 no-row inputs s t (range e v out) = let n : _≡_ {A = ℕ} 0 1 = ap goes-on e in omega arith
 

@@ -1,2 +1,9 @@
+pub mod Calms
+pub mod Filling
+pub mod Holding
 pub mod Kept
+pub mod Offers
+pub mod Rules
 pub mod Standing
+pub mod Stepping
+pub mod Steps

@@ -117,8 +117,9 @@ pub data Happens (v : View) (c : Call) (a : Answer) (v′ : View) : Type 0 where
       → a ≡ ended → v′ ≡ withMode Held v → Happens v c a v′
   step-trapped : {z : ℤ} {t : Trap} → c ≡ step z → v .mode ≡ Running → Trapped (v .inputs) (v .rows) (v .state) t
       → a ≡ trapped t (v .state .place) → v′ ≡ withMode Held v → Happens v c a v′
-  -- a reading outside its set is refused
-  step-outside : {z : ℤ} {x k t : ℕ} {i : Input} → c ≡ step z → v .mode ≡ Running → rowNow v ≡ Take x k t → IsReading v k i → allows i z ≡ false
+  -- a reading that the input does not allow is refused
+  step-outside : {z : ℤ} {x k t : ℕ} → c ≡ step z → v .mode ≡ Running → rowNow v ≡ Take x k t
+      → ((i : Input) → IsSetting v k i → ⊥) → ((i : Input) → IsReading v k i → allows i z ≡ false)
       → a ≡ refused ReadingOutside → v′ ≡ v → Happens v c a v′
   -- a stop holds it where it is
   stopped : c ≡ stop → v .mode ≡ Running → a ≡ done → v′ ≡ withMode Held v → Happens v c a v′

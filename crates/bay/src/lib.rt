@@ -4,6 +4,12 @@
 ghost use Rattle.bay.specs.Stands.{Stands};
 use layers::pile::Domains;
 
+mod bays;
+mod inputs;
+mod rows;
+
+pub use bays::Bay;
+
 /// Whether the bay holds a routine, and whether that runs.
 #[derive(Clone, Copy)]
 pub enum Mode {

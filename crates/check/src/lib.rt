@@ -11,5 +11,7 @@ mod routes;
 mod starts;
 mod verdicts;
 
+pub use routes::input_on;
+pub use routes::row_on;
 pub use verdicts::taken;
 pub use verdicts::verdict;
