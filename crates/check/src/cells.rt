@@ -10,7 +10,7 @@ use scan::piece;
 
 impl<'a> Grid<'a> {
     // The flag of the entry at `place`.
-    pub fn flag(&self, place: usize) -> u8
+    pub(crate) fn flag(&self, place: usize) -> u8
         requires { ⌜ place < now self .sheet .places ⌝ }
         ensures { λ r. ⌜ r ≡ flagAt (shown (now (self .entry))) place ⌝ }
     {
@@ -18,7 +18,7 @@ impl<'a> Grid<'a> {
     }
 
     // The cell of a variable in the entry at `place`.
-    pub fn cell(&self, place: usize, variable: usize) -> &'a [u8]
+    pub(crate) fn cell(&self, place: usize, variable: usize) -> &'a [u8]
         requires { ⌜ place < now self .sheet .places ⌝ ∗ ⌜ variable < now self .sheet .variables ⌝ }
         ensures { λ r. ⌜ now r ≡ cellAt (shown (now (self .entry))) place variable ⌝ }
     {
@@ -29,7 +29,7 @@ impl<'a> Grid<'a> {
 }
 
 // What the table claims of a variable at `place`: the value in its cell.
-pub fn claimed<D: Domain>(grid: &Grid<'_>, place: usize, variable: usize) -> D
+pub(crate) fn claimed<D: Domain>(grid: &Grid<'_>, place: usize, variable: usize) -> D
     requires { ⌜ place < now grid .sheet .places ⌝ ∗ ⌜ variable < now grid .sheet .variables ⌝ }
     ensures { λ r. ⌜ r ≡ claimsIn (D·Domain .ops) (now (grid .entry)) .cell place variable ⌝ }
 {
@@ -40,7 +40,7 @@ pub fn claimed<D: Domain>(grid: &Grid<'_>, place: usize, variable: usize) -> D
 }
 
 // Whether the entry at `place` is present.
-pub fn present<D: Domain>(grid: &Grid<'_>, place: usize) -> bool
+pub(crate) fn present<D: Domain>(grid: &Grid<'_>, place: usize) -> bool
     requires { ⌜ place < now grid .sheet .places ⌝ }
     ensures { λ r. ⌜ r ≡ claimsIn (D·Domain .ops) (now (grid .entry)) .present place ⌝ }
 {

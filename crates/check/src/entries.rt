@@ -48,7 +48,7 @@ fn check_entry<D: Domain>(grid: &Grid<'_>, place: usize) -> Result<(), Refusal>
 }
 
 // Every entry, each finished before the next.
-pub fn check_entries<D: Domain>(grid: &Grid<'_>) -> Result<(), Refusal>
+pub(crate) fn check_entries<D: Domain>(grid: &Grid<'_>) -> Result<(), Refusal>
     ensures { λ r. ⌜ Meets r (entriesRight (D·Domain .ops) (shown (now (grid .entry)))) ⌝ }
 {
     for place in 0..grid.sheet.places {

@@ -64,7 +64,7 @@ fn first_uncovered<D: Domain>(
 }
 
 // Way `way` out of `place` leads to `next` with this change.
-pub fn check_landing<D: Domain>(
+pub(crate) fn check_landing<D: Domain>(
     grid: &Grid<'_>,
     place: usize,
     way: usize,

@@ -184,7 +184,7 @@ fn check_present<D: Domain>(grid: &Grid<'_>, place: usize) -> Result<(), Refusal
 }
 
 // Every place with a present entry, in rising order.
-pub fn check_places<D: Domain>(grid: &Grid<'_>) -> Result<(), Refusal>
+pub(crate) fn check_places<D: Domain>(grid: &Grid<'_>) -> Result<(), Refusal>
     requires readable { ⌜ Readable (partsIn (now grid)) ⌝ }
     ensures { λ r. ⌜ Meets r (placesRight (D·Domain .ops) (routineIn (now (grid .entry))) (claimsIn (D·Domain .ops) (now (grid .entry))) (now (grid .entry) .sheet .places)) ⌝ }
 {

@@ -34,7 +34,7 @@ fn check_zeros<D: Domain>(grid: &Grid<'_>) -> Result<(), Refusal>
     Ok(())
 }
 
-pub fn check_start<D: Domain>(grid: &Grid<'_>) -> Result<(), Refusal>
+pub(crate) fn check_start<D: Domain>(grid: &Grid<'_>) -> Result<(), Refusal>
     ensures { λ r. ⌜ Meets r (startRight (D·Domain .ops) (routineIn (now (grid .entry))) (claimsIn (D·Domain .ops) (now (grid .entry)))) ⌝ }
 {
     if !present::<D>(grid, 0) {

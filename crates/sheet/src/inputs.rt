@@ -7,7 +7,7 @@ use machine::Input;
 use machine::InputKind;
 
 // Reads the bytes of the input with this number.
-pub fn read_input(number: usize, bytes: &[u8]) -> Result<Input, Refusal>
+pub(crate) fn read_input(number: usize, bytes: &[u8]) -> Result<Input, Refusal>
     requires { ⌜ length (now bytes) ≡ 9 ⌝ }
     ensures { λ r. ⌜ r ≡ inputOf number (now (bytes .entry)) ⌝ }
 {

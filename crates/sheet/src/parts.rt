@@ -15,7 +15,7 @@ pub struct Part<'a> {
 }
 
 // A sheet has 28 to 1,048,576 bytes.
-pub fn check_size(bytes: &[u8]) -> Result<(), Refusal>
+pub(crate) fn check_size(bytes: &[u8]) -> Result<(), Refusal>
     ensures { λ r. ⌜ r ≡ sizeRight (now (bytes .entry)) ⌝ }
 {
     if bytes.len() < 28 || bytes.len() > 1_048_576 {
@@ -25,7 +25,7 @@ pub fn check_size(bytes: &[u8]) -> Result<(), Refusal>
 }
 
 // The head: version 1, 1 to 16 variables, at most 8 inputs, 0.
-pub fn check_head(bytes: &[u8]) -> Result<(), Refusal>
+pub(crate) fn check_head(bytes: &[u8]) -> Result<(), Refusal>
     requires { ⌜ 28 ≤ length (now bytes) ⌝ }
     ensures { λ r. ⌜ r ≡ headRight (now (bytes .entry)) ⌝ }
 {
@@ -54,7 +54,7 @@ fn word(bytes: &[u8], at: usize) -> usize
 }
 
 // Lays out the part that the head's pair `index` gives: not before `before`, and inside the sheet.
-pub fn lay_out(bytes: &[u8], index: usize, before: usize) -> Result<Part<'_>, Refusal>
+pub(crate) fn lay_out(bytes: &[u8], index: usize, before: usize) -> Result<Part<'_>, Refusal>
     requires { ⌜ 28 ≤ length (now bytes) ⌝ ∗ ⌜ index < 3 ⌝ }
     ensures { λ r. ⌜ regionIn r ≡ partOf (now (bytes .entry)) index before ⌝ }
 {

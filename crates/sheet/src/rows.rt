@@ -48,7 +48,7 @@ fn check_bytes(most: &[usize; 12], place: usize, bytes: &[u8]) -> Result<(), Ref
 }
 
 // Reads the bytes of the row at `place`.
-pub fn read_row(counts: Counts, place: usize, bytes: &[u8]) -> Result<Row, Refusal>
+pub(crate) fn read_row(counts: Counts, place: usize, bytes: &[u8]) -> Result<Row, Refusal>
     requires { ⌜ length (now bytes) ≡ 12 ⌝ }
     ensures { λ r. ⌜ r ≡ rowOf (counts .variables) (counts .inputs) (counts .places) place (now (bytes .entry)) ⌝ }
 {

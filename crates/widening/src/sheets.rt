@@ -35,7 +35,7 @@ fn check_widths<A: Domain, B: Domain>(sheet: &Sheet<'_>) -> Result<(), Refusal>
 }
 
 // The parts of a sheet that can be widened.
-pub fn fitting_parts<A: Domain, B: Domain>(bytes: &[u8]) -> Result<Sheet<'_>, Refusal>
+pub(crate) fn fitting_parts<A: Domain, B: Domain>(bytes: &[u8]) -> Result<Sheet<'_>, Refusal>
     ensures value { λ r. ⌜ seenIn r ≡ fitting (A·Domain .ops) (B·Domain .ops) (now (bytes .entry)) ⌝ }
     ensures fits { λ r. ⌜ made r (λ s. Fits (seen s)) ⌝ }
 {
@@ -45,7 +45,7 @@ pub fn fitting_parts<A: Domain, B: Domain>(bytes: &[u8]) -> Result<Sheet<'_>, Re
 }
 
 // How many bytes a sheet has once it is widened.
-pub fn widened_len<B: Domain>(sheet: &Sheet<'_>, width: usize) -> usize
+pub(crate) fn widened_len<B: Domain>(sheet: &Sheet<'_>, width: usize) -> usize
     requires fits { ⌜ Fits (seen (now sheet)) ⌝ }
     requires small { ⌜ width ≤ 64 ⌝ }
     ensures { λ r. ⌜ r ≡ 28 + length (seen (now (sheet .entry)) .inputs .bytes) + length (seen (now (sheet .entry)) .rows .bytes) + now (sheet .entry) .places * (1 + now (sheet .entry) .variables * (width + B·Domain .ops .width)) ⌝ }
@@ -57,7 +57,7 @@ pub fn widened_len<B: Domain>(sheet: &Sheet<'_>, width: usize) -> usize
 }
 
 // A sheet, widened, over the front of a buffer.
-pub fn put_sheet<B: Domain>(out: &mut [u8], sheet: &Sheet<'_>, width: usize)
+pub(crate) fn put_sheet<B: Domain>(out: &mut [u8], sheet: &Sheet<'_>, width: usize)
     requires fits { ⌜ Fits (seen (now sheet)) ⌝ }
     requires small { ⌜ width ≤ 64 ⌝ }
     requires whole { ⌜ length (seen (now sheet) .table .bytes) ≡ now sheet .places * (1 + now sheet .variables * width) ⌝ }

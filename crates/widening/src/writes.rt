@@ -10,7 +10,7 @@ use domain::Domain;
 use scan::piece;
 
 // Some bytes.
-pub fn put_bytes(out: &mut [u8], at: usize, bytes: &[u8])
+pub(crate) fn put_bytes(out: &mut [u8], at: usize, bytes: &[u8])
     requires { ⌜ at + length (now bytes) ≤ length (now out) ⌝ }
     ensures { λ _. ⌜ now (out .exit) ≡ put (now (out .entry)) at (now (bytes .entry)) ⌝ }
 {
@@ -18,7 +18,7 @@ pub fn put_bytes(out: &mut [u8], at: usize, bytes: &[u8])
 }
 
 // A number below 2^32 in four bytes, the lowest first.
-pub fn put_word(out: &mut [u8], at: usize, number: usize)
+pub(crate) fn put_word(out: &mut [u8], at: usize, number: usize)
     requires { ⌜ at + 4 ≤ length (now out) ⌝ ∗ ⌜ number < 4294967296 ⌝ }
     ensures { λ _. ⌜ now (out .exit) ≡ put (now (out .entry)) at (wordBytes number) ⌝ }
 {
@@ -27,7 +27,7 @@ pub fn put_word(out: &mut [u8], at: usize, number: usize)
 }
 
 // The blank cell of a domain.
-pub fn put_blanks<B: Domain>(out: &mut [u8], at: usize)
+pub(crate) fn put_blanks<B: Domain>(out: &mut [u8], at: usize)
     requires { ⌜ at + B·Domain .ops .width ≤ length (now out) ⌝ }
     ensures { λ _. ⌜ now (out .exit) ≡ put (now (out .entry)) at (blanks (B·Domain .ops)) ⌝ }
 {
@@ -37,7 +37,7 @@ pub fn put_blanks<B: Domain>(out: &mut [u8], at: usize)
 }
 
 // A cell, and the blank cell of a second domain after it.
-pub fn put_cell<B: Domain>(out: &mut [u8], at: usize, cell: &[u8])
+pub(crate) fn put_cell<B: Domain>(out: &mut [u8], at: usize, cell: &[u8])
     requires { ⌜ at + length (now cell) + B·Domain .ops .width ≤ length (now out) ⌝ }
     ensures { λ _. ⌜ now (out .exit) ≡ put (now (out .entry)) at (now (cell .entry) ++ blanks (B·Domain .ops)) ⌝ }
 {
@@ -46,7 +46,13 @@ pub fn put_cell<B: Domain>(out: &mut [u8], at: usize, cell: &[u8])
 }
 
 // Cells of a width, each with the blank cell of a second domain after it.
-pub fn put_cells<B: Domain>(out: &mut [u8], at: usize, cells: &[u8], variables: usize, width: usize)
+pub(crate) fn put_cells<B: Domain>(
+    out: &mut [u8],
+    at: usize,
+    cells: &[u8],
+    variables: usize,
+    width: usize,
+)
     requires small { ⌜ width ≤ 64 ⌝ }
     requires whole { ⌜ length (now cells) ≡ variables * width ⌝ }
     requires room { ⌜ at + variables * (width + B·Domain .ops .width) ≤ length (now out) ⌝ }
@@ -59,7 +65,13 @@ pub fn put_cells<B: Domain>(out: &mut [u8], at: usize, cells: &[u8], variables: 
 }
 
 // An entry, present or absent: its flag and its cells.
-pub fn put_entry<B: Domain>(out: &mut [u8], at: usize, entry: &[u8], variables: usize, width: usize)
+pub(crate) fn put_entry<B: Domain>(
+    out: &mut [u8],
+    at: usize,
+    entry: &[u8],
+    variables: usize,
+    width: usize,
+)
     requires small { ⌜ width ≤ 64 ⌝ }
     requires whole { ⌜ length (now entry) ≡ 1 + variables * width ⌝ }
     requires room { ⌜ at + (1 + variables * (width + B·Domain .ops .width)) ≤ length (now out) ⌝ }
@@ -71,7 +83,7 @@ pub fn put_entry<B: Domain>(out: &mut [u8], at: usize, entry: &[u8], variables: 
 }
 
 // A table, entry by entry.
-pub fn put_table<B: Domain>(
+pub(crate) fn put_table<B: Domain>(
     out: &mut [u8],
     at: usize,
     table: &[u8],
@@ -98,7 +110,7 @@ pub fn put_table<B: Domain>(
 }
 
 // What the head says of a part: its offset and its length.
-pub fn put_pair(out: &mut [u8], at: usize, offset: usize, len: usize)
+pub(crate) fn put_pair(out: &mut [u8], at: usize, offset: usize, len: usize)
     requires { ⌜ at + 8 ≤ length (now out) ⌝ ∗ ⌜ offset < 4294967296 ⌝ ∗ ⌜ len < 4294967296 ⌝ }
     ensures { λ _. ⌜ now (out .exit) ≡ put (now (out .entry)) at (wordBytes offset ++ wordBytes len) ⌝ }
 {
@@ -107,7 +119,7 @@ pub fn put_pair(out: &mut [u8], at: usize, offset: usize, len: usize)
 }
 
 // The head of a sheet whose parts stand one right after another, by its counts and the lengths of the parts.
-pub fn put_head(
+pub(crate) fn put_head(
     out: &mut [u8],
     variables: usize,
     input_count: usize,

@@ -18,7 +18,7 @@ use sheet::Sheet;
 
 impl InputTable {
     /// A table that holds no input.
-    pub fn new() -> InputTable
+    pub(crate) fn new() -> InputTable
         ensures inputs { λ r. ⌜ heldInputs r ≡ [] ⌝ }
         ensures settings { λ r. ⌜ heldSettings r ≡ [] ⌝ }
     {
@@ -35,7 +35,7 @@ impl InputTable {
     }
 
     /// The input with this number, if it is held.
-    pub fn input(&self, number: usize) -> Option<Input>
+    pub(crate) fn input(&self, number: usize) -> Option<Input>
         ensures { λ r. ⌜ r ≡ nth (heldInputs (now (self .entry))) number ⌝ }
     {
         if number < self.count {
@@ -46,7 +46,7 @@ impl InputTable {
     }
 
     /// The setting of the input with this number; 0 where it is not held.
-    pub fn setting(&self, number: usize) -> i32
+    pub(crate) fn setting(&self, number: usize) -> i32
         ensures { λ r. ⌜ r ≡ getD (heldSettings (now (self .entry))) number (pos 0) ⌝ }
     {
         if number < self.count {
@@ -57,7 +57,7 @@ impl InputTable {
     }
 
     /// Changes the setting of the input with this number, if it is held.
-    pub fn set(&mut self, number: usize, value: i32)
+    pub(crate) fn set(&mut self, number: usize, value: i32)
         ensures inputs { λ _. ⌜ heldInputs (now (self .exit)) ≡ heldInputs (now (self .entry)) ⌝ }
         ensures settings { λ _. ⌜ heldSettings (now (self .exit)) ≡ set (heldSettings (now (self .entry))) number value ⌝ }
     {
@@ -88,7 +88,7 @@ impl InputTable {
     }
 
     /// Holds the inputs of a sheet that has been read, each setting at its lo.
-    pub fn fill(&mut self, sheet: &Sheet<'_>)
+    pub(crate) fn fill(&mut self, sheet: &Sheet<'_>)
         requires { ⌜ Readable (seen (now sheet)) ⌝ }
         ensures inputs { λ _. ⌜ heldInputs (now (self .exit)) ≡ routineOf (seen (now (sheet .entry))) .inputs ⌝ }
         ensures settings { λ _. ⌜ heldSettings (now (self .exit)) ≡ map (λ i. i .lo) (routineOf (seen (now (sheet .entry))) .inputs) ⌝ }

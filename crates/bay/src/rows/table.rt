@@ -15,7 +15,7 @@ use sheet::Sheet;
 
 impl RowTable {
     /// A table that holds no row.
-    pub fn new() -> RowTable
+    pub(crate) fn new() -> RowTable
         ensures { λ r. ⌜ heldRows r ≡ [] ⌝ }
     {
         RowTable {
@@ -25,7 +25,7 @@ impl RowTable {
     }
 
     /// The row at a place; a place that is not held ends.
-    pub fn row(&self, place: usize) -> Row
+    pub(crate) fn row(&self, place: usize) -> Row
         ensures { λ r. ⌜ r ≡ rowOn (heldRows (now (self .entry))) place ⌝ }
     {
         if place < self.count {
@@ -54,7 +54,7 @@ impl RowTable {
     }
 
     /// Holds the rows of a sheet that has been read.
-    pub fn fill(&mut self, sheet: &Sheet<'_>)
+    pub(crate) fn fill(&mut self, sheet: &Sheet<'_>)
         requires { ⌜ Readable (seen (now sheet)) ⌝ }
         ensures { λ _. ⌜ heldRows (now (self .exit)) ≡ routineOf (seen (now (sheet .entry))) .rows ⌝ }
     {
