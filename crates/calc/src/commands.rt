@@ -14,7 +14,7 @@ pub enum Answer<D> {
     /// There is no value.
     Nothing,
     Covers(bool),
-    Width(usize),
+    Number(usize),
 }
 
 pub impl<D: Notation> fmt::Display for Answer<D> as AnswerDisplay {
@@ -33,7 +33,7 @@ pub impl<D: Notation> fmt::Display for Answer<D> as AnswerDisplay {
             Answer::Nothing => write!(f, "none"),
             Answer::Covers(true) => write!(f, "yes"),
             Answer::Covers(false) => write!(f, "no"),
-            Answer::Width(width) => write!(f, "{width}"),
+            Answer::Number(number) => write!(f, "{number}"),
         }
     }
 }
@@ -100,6 +100,23 @@ fn value<D: Notation>(words: &[&str]) -> Option<Answer<D>> {
     Some(quiet(Some(D::value(lo.parse::<i32>().ok()?, hi.parse::<i32>().ok()?))))
 }
 
+// The words are the bytes of a cell, at most 64.
+fn read<D: Notation>(words: &[&str]) -> Option<Answer<D>> {
+    let mut cell = [0u8; 64];
+    for (byte, word) in cell.iter_mut().zip(words.iter()) {
+        *byte = word.parse::<u8>().ok()?;
+    }
+    Some(quiet(D::read(cell.get(0..words.len())?)))
+}
+
+fn blank<D: Notation>(words: &[&str]) -> Option<Answer<D>> {
+    let [index] = words else {
+        return None;
+    };
+    let byte = D::blank(index.parse::<usize>().ok()?);
+    Some(Answer::Number(byte as usize))
+}
+
 /// What the words of a command after the domain's name answer, if they are understood.
 pub fn answered<D: Notation>(words: &[&str]) -> Option<Answer<D>> {
     let [verb, words @ ..] = words else {
@@ -111,7 +128,9 @@ pub fn answered<D: Notation>(words: &[&str]) -> Option<Answer<D>> {
         "covers" => covers::<D>(words),
         "value" => value::<D>(words),
         "anything" => Some(quiet(Some(D::anything()))),
-        "width" => Some(Answer::Width(D::width())),
+        "read" => read::<D>(words),
+        "blank" => blank::<D>(words),
+        "width" => Some(Answer::Number(D::width())),
         _ => None,
     }
 }

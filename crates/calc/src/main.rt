@@ -4,7 +4,9 @@
 //   DOMAIN covers A B          `yes` or `no`
 //   DOMAIN value LO HI         the value of LO to HI
 //   DOMAIN anything            the value that describes every integer
-//   DOMAIN width               the bytes of a cell
+//   DOMAIN width               how many bytes a cell has
+//   DOMAIN read BYTE ..        the value of a cell of these bytes, at most 64, or `none`
+//   DOMAIN blank INDEX         the byte of the blank cell at an index
 // A domain goes by its name in the crate `catalog`, and values are written as src/notation.rt says.
 // A blank line, or one that begins with '#', prints nothing. A line that is not understood prints `error` and its number.
 mod commands;

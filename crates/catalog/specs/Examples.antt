@@ -2,8 +2,7 @@
 -- A span is written lo..hi, a stride (modulus, remainder).
 use mathlib.Core.Bool.{Bool, true, false}
 use mathlib.Core.Path.{_≡_}
-use Prim.Native.Nat.{ℕ}
-use lib.IntN.{ℤ, pos, negsuc}
+use lib.IntN.{pos, negsuc}
 use Rattle.std.specs.declared.option.Option.the-variants.{Some}
 use Rattle.std.specs.declared.result.Result.the-variants.{Ok, Err}
 use Rattle.number.specs.declared.Op.the-variants.{Mul, Div, Add}
@@ -32,7 +31,7 @@ around mark = record { marked = mark; inner = to (negsuc 4) (pos 5) }
 abbrev pub oddAround : Pair Span Stride
 oddAround = record { first = to (negsuc 4) (pos 5); second = strided 2 (pos 1) }
 
--- two, four, eight and nine spans paired
+-- two spans paired, and four
 abbrev pub spans2 : Ops (Pair Span Span)
 spans2 = pair-ops span-ops span-ops
 
@@ -52,7 +51,7 @@ pub record Examples : Type 0 where
   pub marked-hole : nonzero-ops span-ops .narrows (around false) Unequal (nonzero-ops span-ops .value (pos 0) (pos 0)) ≡ Some (around true)
   -- (2, 1) + (4, 3) is (2, 0), with the range warning
   pub stride-sum : stride-ops .works Add (strided 2 (pos 1)) (strided 4 (pos 3)) ≡ (strided 2 (pos 0), false, true)
-  -- to divide by -5..5 warns of zero, and so does not to divide by -5..5 paired with (2, 1)
+  -- 7..7 ÷ -5..5 warns of zero; nothing warns so that is divided by -5..5 paired with (2, 1)
   pub span-divided : span-ops .works Div (to (pos 7) (pos 7)) (to (negsuc 4) (pos 5)) .1 ≡ true
   pub pair-divided : (a : Pair Span Stride) → pair-ops span-ops stride-ops .works Div a oddAround .1 ≡ false
   -- eight spans paired have cells of 64 bytes, and nine have none

@@ -1,4 +1,4 @@
--- The domains that ship, by number and as piles. Assumes nothing.
+-- The domains that ship below the layers, by number. Assumes nothing.
 use Prim.Native.Nat.{ℕ, zero, suc}
 use Rattle.domain.specs.Carrier.{Dom, asDom}
 use Rattle.domain.specs.Nothing as Nothing

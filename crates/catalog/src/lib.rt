@@ -55,7 +55,7 @@ pub type Spans9 = Pair<Spans8, Span>;
 #[derive(Clone, Copy)]
 pub struct Shipped;
 
-// It shows that what is asked of a family of domains can be met.
+// What the theorems over all lawful domains ask of such a family can be met.
 pub impl Domains for Shipped as ShippedDomains {
     ghost doms = { shipped };
 }

@@ -1,5 +1,6 @@
+use mathlib.Core.Path.{ap₂}
 use Rattle.catalog.proofs.Worked.{examples}
 use Rattle.catalog.proofs.examples_hold.Needs as need
 
 pub returns : need.returns
-returns c = record { widths = cc; cases = examples }
+returns c = record { widths = ap₂ (λ x y. (x, y)) (c .width .ensures) (c .width-2 .ensures); cases = examples }
