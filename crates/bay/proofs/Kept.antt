@@ -82,7 +82,7 @@ fine law sound (stopped _ _ ea ev) = same (rests sound) ea refl ev
 fine law sound (shows _ _ _ ea ev) = same sound ea refl ev
 fine law sound (shows-nothing _ _ _ ea ev) = same sound ea refl ev
 
-empty-not-running : Empty ≡ Running → ⊥
+pub empty-not-running : Empty ≡ Running → ⊥
 empty-not-running e = let n : _≡_ {A = ℕ} 0 2 = ap mode-number e in omega arith
 
 -- an end row traps nowhere

@@ -12,6 +12,7 @@ use bay::Shown;
 use bay::stands;
 use catalog::Shipped;
 use catalog::ShippedDomains;
+use dawn::morning_runs;
 use machine::Outcome;
 use number::Trap;
 use sheet::Refusal;
@@ -30,6 +31,7 @@ use offers::offer;
 
 fn main(rt: LibcRuntime) -> Result<(), AnyError> {
     stands::<Shipped>();
+    morning_runs();
     let explain = wants_words(&rt)?;
     let mut bay = Bay::new();
     let mut number = 0usize;
