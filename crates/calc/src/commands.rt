@@ -118,7 +118,7 @@ fn blank<D: Notation>(words: &[&str]) -> Option<Answer<D>> {
 }
 
 /// What the words of a command after the domain's name answer, if they are understood.
-pub fn answered<D: Notation>(words: &[&str]) -> Option<Answer<D>> {
+pub(crate) fn answered<D: Notation>(words: &[&str]) -> Option<Answer<D>> {
     let [verb, words @ ..] = words else {
         return None;
     };

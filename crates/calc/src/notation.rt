@@ -23,7 +23,7 @@ pub trait Notation: Domain {
 }
 
 /// The value that the whole text is.
-pub fn parsed<D: Notation>(text: &str) -> Option<D> {
+pub(crate) fn parsed<D: Notation>(text: &str) -> Option<D> {
     match D::behind(text) {
         None => D::first_of(text),
         Some(_) => None,

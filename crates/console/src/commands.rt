@@ -12,7 +12,7 @@ pub enum Command<'a> {
 }
 
 /// What a line asks for, if it is a call: the verb, and just the words that it takes.
-pub fn parsed(line: &str) -> Option<Command<'_>> {
+pub(crate) fn parsed(line: &str) -> Option<Command<'_>> {
     let mut words = line.split_whitespace();
     let verb = words.next()?;
     let first = words.next();

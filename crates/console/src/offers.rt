@@ -20,7 +20,7 @@ use std::alloc::Global;
 use stride::StrideDomain;
 
 /// Offers the sheet; none where there is no such domain, or the text is no row of bytes.
-pub fn offer(
+pub(crate) fn offer(
     heap: Global,
     bay: &mut Bay,
     domain: &str,

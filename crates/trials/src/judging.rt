@@ -18,7 +18,7 @@ use span::SpanDomain;
 use stride::StrideDomain;
 
 /// The verdict on a sheet in the domain of that name, if there is one.
-pub fn judged(domain: &str, sheet: &[u8]) -> Option<Result<usize, Refusal>> {
+pub(crate) fn judged(domain: &str, sheet: &[u8]) -> Option<Result<usize, Refusal>> {
     let verdict = match domain {
         "spans" => verdict::<Spans>(sheet),
         "strides" => verdict::<Strides>(sheet),
