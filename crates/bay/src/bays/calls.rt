@@ -148,7 +148,7 @@ impl Bay {
     {
         match self.mode {
             Mode::Empty => Err(Refusal::NothingHeld),
-            Mode::Held => Err(Refusal::NotRunning),
+            Mode::Held => Err(Refusal::NotRunning), // what does not run takes no step
             Mode::Running => {
                 let row = self.rows.row(self.state.place());
                 match self.taken_by(row, reading) {
