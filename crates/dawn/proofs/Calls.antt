@@ -22,10 +22,11 @@ use Rattle.span.specs.Ends.{spanned}
 use Rattle.span.specs.Model.{span-ops}
 use Rattle.rules.specs.Faults.{Fault}
 use Rattle.rules.specs.Tables.{verdictOf}
-use Rattle.bay.specs.Calls.{offer-taken}
+use Rattle.bay.specs.Calls
+use Rattle.bay.specs.Calls.{Happens, done, moved, ended, offer-taken}
 use Rattle.bay.specs.Model.{View, nothing, holding, startOf, stepOf, rowNow}
 use Rattle.bay.specs.Stands
-use Rattle.bay.specs.Stands.{Succession, none, after, offer-in}
+use Rattle.bay.specs.Stands.{Succession, none, after, callOf, offer-in}
 use Rattle.bay.proofs.Kept.{empty-not-running}
 use Rattle.bay.proofs.Rules.{start-happens}
 use Rattle.bay.proofs.Steps.{step-happens}
@@ -93,19 +94,50 @@ volts = record { low = leZ-yes tt; high = leZ-yes tt }
 none-read : Int32 (pos 0)
 none-read = record { low = leZ-yes tt; high = leZ-yes tt }
 
+-- each call is a case of the rules
+offers : Happens nothing (callOf shipped (offer-in (leaf 0) dawn (bytes dawn refl))) (Calls.taken 5) offered
+offers = offer-taken refl empty-not-running taken read refl refl
+
+starts : Happens offered (callOf shipped Stands.start) done started
+starts = start-happens offered
+
+reads-volts : Happens started (callOf shipped (Stands.step (pos 120))) (moved 1) with-volts
+reads-volts = step-happens started (pos 120) refl (pos 120, refl, told (started .inputs) (rowNow started) (started .state) (pos 120) volts volts)
+
+reads-amperes : Happens with-volts (callOf shipped (Stands.step (pos 0))) (moved 2) with-amperes
+reads-amperes = step-happens with-volts (pos 0) refl (pos 0, refl, told (with-volts .inputs) (rowNow with-volts) (with-volts .state) (pos 0) none-read none-read)
+
+forks : Happens with-amperes (callOf shipped (Stands.step (pos 0))) (moved 4) at-end
+forks = step-happens with-amperes (pos 0) refl (pos 0, refl, told (with-amperes .inputs) (rowNow with-amperes) (with-amperes .state) (pos 0) none-read tt)
+
+ends : Happens at-end (callOf shipped (Stands.step (pos 0))) ended over
+ends = step-happens at-end (pos 0) refl (pos 0, refl, told (at-end .inputs) (rowNow at-end) (at-end .state) (pos 0) none-read tt)
+
 pub morning : Morning
 morning = record {
-  bay = over;
+  bytes = bytes dawn refl;
+  held = offered;
+  offered = offers;
+  begun = started;
+  started = starts;
+  with-volts = with-volts;
+  volts = reads-volts;
+  with-amperes = with-amperes;
+  amperes = reads-amperes;
+  at-end = at-end;
+  forked = forks;
+  over = over;
+  finished = ends;
   calls =
       after (after (after (after (after (after none
-      (offer-in (leaf 0) dawn (bytes dawn refl)) (offer-taken refl empty-not-running taken read refl refl))
-      Stands.start (start-happens offered))
-      (Stands.step (pos 120)) (step-happens started (pos 120) refl (pos 120, refl, told (started .inputs) (rowNow started) (started .state) (pos 120) volts volts)))
-      (Stands.step (pos 0)) (step-happens with-volts (pos 0) refl (pos 0, refl, told (with-volts .inputs) (rowNow with-volts) (with-volts .state) (pos 0) none-read none-read)))
-      (Stands.step (pos 0)) (step-happens with-amperes (pos 0) refl (pos 0, refl, told (with-amperes .inputs) (rowNow with-amperes) (with-amperes .state) (pos 0) none-read tt)))
-      (Stands.step (pos 0)) (step-happens at-end (pos 0) refl (pos 0, refl, told (at-end .inputs) (rowNow at-end) (at-end .state) (pos 0) none-read tt));
-  held = refl;
-  ended = refl;
-  volts = refl;
-  amperes = refl;
+      (offer-in (leaf 0) dawn (bytes dawn refl)) offers)
+      Stands.start starts)
+      (Stands.step (pos 120)) reads-volts)
+      (Stands.step (pos 0)) reads-amperes)
+      (Stands.step (pos 0)) forks)
+      (Stands.step (pos 0)) ends;
+  rests = refl;
+  last = refl;
+  read-volts = refl;
+  read-amperes = refl;
 }

@@ -2,17 +2,36 @@
 use mathlib.Core.Path.{_≡_}
 use lib.IntN.{pos}
 use Rattle.machine.specs.Imp.{lookUp}
-use Rattle.bay.specs.Model.{View}
-use Rattle.bay.specs.Stands.{Succession}
+use Rattle.sheet.specs.Bytes.{AllBytes}
+use Rattle.layers.specs.Piles.{leaf}
+use Rattle.bay.specs.Calls.{Happens, taken, done, moved, ended}
+use Rattle.bay.specs.Model.{View, nothing}
+use Rattle.bay.specs.Stands
+use Rattle.bay.specs.Stands.{Succession, callOf, offer-in}
 use Rattle.bay.specs.declared.Mode.the-variants.{Held}
 use Rattle.catalog.specs.Shipped.{shipped}
+use Rattle.dawn.specs.Sheet.{dawn}
 
--- A succession of calls, with no trap answered, leaves a bay that holds the routine at its end: 120 volts were read
--- and no current, so that nothing was divided.
+-- Each call of the morning with its answer, on a bay that held nothing at first. 120 volts are read and no current,
+-- so that the fork goes to the end and nothing is divided.
 pub record Morning : Type 0 where
-  pub bay : View
-  pub calls : Succession shipped bay 0
-  pub held : bay .mode ≡ Held
-  pub ended : bay .state .place ≡ 4
-  pub volts : lookUp (bay .state .locals) 0 ≡ pos 120
-  pub amperes : lookUp (bay .state .locals) 1 ≡ pos 0
+  pub bytes : AllBytes dawn
+  pub held : View
+  pub offered : Happens nothing (callOf shipped (offer-in (leaf 0) dawn bytes)) (taken 5) held
+  pub begun : View
+  pub started : Happens held (callOf shipped Stands.start) done begun
+  pub with-volts : View
+  pub volts : Happens begun (callOf shipped (Stands.step (pos 120))) (moved 1) with-volts
+  pub with-amperes : View
+  pub amperes : Happens with-volts (callOf shipped (Stands.step (pos 0))) (moved 2) with-amperes
+  pub at-end : View
+  pub forked : Happens with-amperes (callOf shipped (Stands.step (pos 0))) (moved 4) at-end
+  pub over : View
+  pub finished : Happens at-end (callOf shipped (Stands.step (pos 0))) ended over
+  -- they are a succession of calls, and no trap was answered
+  pub calls : Succession shipped over 0
+  -- the bay then holds the routine, at its end, with what was read
+  pub rests : over .mode ≡ Held
+  pub last : over .state .place ≡ 4
+  pub read-volts : lookUp (over .state .locals) 0 ≡ pos 120
+  pub read-amperes : lookUp (over .state .locals) 1 ≡ pos 0

@@ -1,4 +1,4 @@
--- The dawn sheet, and a morning with it: offered, started and stepped. Assumes nothing.
+-- The dawn sheet, byte by byte. Assumes nothing.
 use mathlib.Core.List.{List, [], _∷_}
 use Prim.Native.Nat.{ℕ}
 
