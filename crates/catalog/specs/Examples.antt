@@ -4,11 +4,8 @@ use mathlib.Core.Bool.{Bool, true, false}
 use mathlib.Core.Path.{_≡_}
 use lib.IntN.{pos, negsuc}
 use Rattle.std.specs.declared.option.Option.the-variants.{Some}
-use Rattle.std.specs.declared.result.Result.the-variants.{Ok, Err}
-use Rattle.number.specs.declared.Op.the-variants.{Mul, Div, Add}
+use Rattle.number.specs.declared.Op.the-variants.{Div}
 use Rattle.number.specs.declared.Relation.the-variants.{Unequal}
-use Rattle.number.specs.declared.Trap.the-variants.{Zero, Range}
-use Rattle.number.specs.Exact.{least, worked}
 use Rattle.number.specs.Means as numbers
 use Rattle.domain.specs.Model.{Ops}
 use Rattle.span.specs.declared.Span.{Span}
@@ -40,24 +37,15 @@ spans4 = pair-ops spans2 spans2
 
 pub record Examples : Type 0 where
   -- 7 ÷ -2 is -3, toward zero; -2^31 ÷ -1 is a range trap; 1 ÷ 0 is a zero trap
-  pub toward-zero : worked Div (pos 7) (negsuc 1) ≡ Ok (negsuc 2)
-  pub past-the-greatest : worked Div least (negsuc 0) ≡ Err Range
-  pub by-zero : worked Div (pos 1) (pos 0) ≡ Err Zero
-  -- -3..2 × -4..5 is -15..12, with no warning
-  pub span-product : span-ops .works Mul (to (negsuc 2) (pos 2)) (to (negsuc 3) (pos 5)) ≡ (to (negsuc 14) (pos 12), false, false)
-  -- -5..5 narrowed by ≠ 0..0 is -5..5
-  pub span-hole : span-ops .narrows (to (negsuc 4) (pos 5)) Unequal (to (pos 0) (pos 0)) ≡ Some (to (negsuc 4) (pos 5))
-  -- under nonzero the same narrowing gives a marked value
+  pub of-numbers : numbers.Examples
+  -- -3..2 × -4..5 is -15..12; -5..5 narrowed by ≠ 0..0 is -5..5; 7..7 ÷ -5..5 warns of zero; and others
+  pub of-spans : spans.Examples
+  -- (2, 1) + (4, 3) is (2, 0), with the range warning; and others
+  pub of-strides : strides.Examples
+  -- under nonzero, -5..5 narrowed by ≠ 0..0 becomes marked
   pub marked-hole : nonzero-ops span-ops .narrows (around false) Unequal (nonzero-ops span-ops .value (pos 0) (pos 0)) ≡ Some (around true)
-  -- (2, 1) + (4, 3) is (2, 0), with the range warning
-  pub stride-sum : stride-ops .works Add (strided 2 (pos 1)) (strided 4 (pos 3)) ≡ (strided 2 (pos 0), false, true)
-  -- 7..7 ÷ -5..5 warns of zero; nothing warns so that is divided by -5..5 paired with (2, 1)
-  pub span-divided : span-ops .works Div (to (pos 7) (pos 7)) (to (negsuc 4) (pos 5)) .1 ≡ true
+  -- nothing warns of zero that is divided by -5..5 paired with (2, 1)
   pub pair-divided : (a : Pair Span Stride) → pair-ops span-ops stride-ops .works Div a oddAround .1 ≡ false
   -- eight spans paired have cells of 64 bytes, and nine have none
   pub eight-spans : pair-ops spans4 spans4 .width ≡ 64
   pub nine-spans : pair-ops (pair-ops spans4 spans4) span-ops .width ≡ 0
-  -- the cases that each crate worked out
-  pub of-numbers : numbers.Examples
-  pub of-spans : spans.Examples
-  pub of-strides : strides.Examples
