@@ -1,6 +1,8 @@
 // Reads the text of a sheet from standard input and writes the sheet's bytes to standard output.
 // A mistake is told on standard error as `line N: reason`, nothing is written, and the program ends with status 1.
 // docs/TEXT.md has the form, which is what `disassemble` prints.
+#![tactic(auto)]
+
 use anyhow::anyhow;
 use lines::Mistake;
 use std::alloc::Global;

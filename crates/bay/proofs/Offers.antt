@@ -16,7 +16,7 @@ use Rattle.rules.specs.Faults.{Fault, fixed, Meets}
 use Rattle.sheet.specs.Sheets.{sheet_of}
 use Rattle.sheet.specs.declared.refusals.Refusal.{Refusal}
 use Rattle.sheet.specs.declared.refusals.Refusal.TheVariants.{Running as RunsAlready}
-use Rattle.check.proofs.Meeting.{meets-ok, meets-err}
+use Rattle.checker.proofs.Meeting.{meets-ok, meets-err}
 use Rattle.bay.specs.Calls
 use Rattle.bay.specs.Calls.{Happens, offer_taken, offer_refused}
 use Rattle.bay.specs.Calm.{CanTrap, settled}

@@ -1,6 +1,8 @@
 // The bay: it holds one routine at a time, and is driven by six calls: offer, start, set, step, stop and show.
 // specs/ has the model of the bay and the rules of the calls; what is proved of every succession of calls is the
 // contract of `stands`.
+#![tactic(auto)]
+
 ghost use Rattle.bay.specs.Stands.{Stands};
 
 use layers::pile::Domains;

@@ -9,6 +9,8 @@
 //   DOMAIN blank INDEX         the byte of the blank cell at an index
 // A domain goes by its name in the crate `catalog`, and values are written as the crate `notation` says.
 // A blank line, or one that begins with '#', prints nothing. A line that is not understood prints `error` and its number.
+#![tactic(auto)]
+
 mod commands;
 
 use catalog::{

@@ -1,5 +1,7 @@
 // The domains that ship, by name, and one table of worked cases over all of them.
 // A name is what a person writes, as in `nonzero(spans)`; each is a type below.
+#![tactic(auto)]
+
 ghost use Rattle.std.specs.Prelude.{◌≡◌};
 ghost use Rattle.catalog.specs.Shipped.{shipped};
 ghost use Rattle.catalog.specs.Examples.{Examples};

@@ -7,6 +7,8 @@
 // Any call may answer `refused NUMBER PLACE WAY VARIABLE`; with the argument `explain` a line in words follows, which
 // begins with two blanks. A blank line, or one that begins with '#', prints nothing; any other line prints
 // `error LINE`, with the line's number from 1.
+#![tactic(auto)]
+
 use bay::{Bay, Shown, stands};
 use catalog::Shipped;
 use dawn::morning_runs;

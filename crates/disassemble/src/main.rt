@@ -1,6 +1,8 @@
 // Reads a sheet from standard input and prints its text form, which `assemble` makes the sheet of again, or why its
 // format is refused. The argument names the domain that cells are written in; without one they are written in spans.
 // It checks the format alone: whether the routine is safe is not asked here.
+#![tactic(auto)]
+
 mod tables;
 
 ghost use Rattle.sheet.specs.Sheets.{Fits};

@@ -2,6 +2,8 @@
 // A domain's values each describe some integers. Its operations are said by one record of functions (specs/Model.antt),
 // and four laws tie them to what the values describe (specs/Laws.antt). All that is built on a domain rests on these
 // laws and on nothing else of it.
+#![tactic(auto)]
+
 ghost use Rattle.std.specs.Prelude.{◌≡◌, ℤ};
 ghost use Rattle.domain.specs.Model.{Ops};
 ghost use Rattle.domain.specs.Carrier.{Lawful, as_dom};

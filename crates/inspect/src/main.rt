@@ -1,5 +1,7 @@
 // Reads a sheet from standard input and prints in words what it holds, or why its format is refused.
 // It checks the format alone: whether the routine is safe is not asked here.
+#![tactic(auto)]
+
 ghost use Rattle.std.specs.Prelude.{◌≡◌, ◌+◌, ◌*◌, ◌<◌, slice_index};
 ghost use Rattle.inspect.specs.Flags.{flag_of};
 ghost use Rattle.scan.specs.Scan.{chunk};

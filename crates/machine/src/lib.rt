@@ -1,6 +1,8 @@
 // A routine: what its rows do and where its inputs come from.
 // A row's number, from 0, is its place; variables and inputs go by their numbers too.
 // A routine has 1 to 16 variables, 0 to 8 inputs and 1 to 256 places.
+#![tactic(auto)]
+
 mod states;
 mod steps;
 mod words;

@@ -1,6 +1,8 @@
 // Integers of 32 bits: the eight operations and the six relations of a routine, each with its code,
 // and one meaning of both over the unbounded integers (specs/Exact.antt).
 // The machine's step and every domain are stated over that one meaning.
+#![tactic(auto)]
+
 ghost use Rattle.std.specs.Prelude.{◌≡◌, true, Decides};
 ghost use Rattle.number.specs.Codes.{op_code, op_coded, relation_code, relation_coded};
 ghost use Rattle.number.specs.Exact.{exact, worked, holds, mirrored as mirrored_relation, opposite as opposite_relation};

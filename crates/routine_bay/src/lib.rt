@@ -1,6 +1,8 @@
 // The bay for programs in other languages: a static library of two functions over numbers and byte slices.
 // `routine_bay_verdict` judges a sheet, `routine_bay_play` plays a list of calls on a bay; neither allocates or keeps anything.
 // docs/LINKING.md has the layout of what they take and answer, c/routine_bay.h declares them for C.
+#![tactic(auto)]
+
 ghost use Rattle.routine_bay.specs.Named.{named, Answered, Tells};
 ghost use Rattle.routine_bay.specs.Plays.{Plays};
 ghost use Rattle.routine_bay.specs.declared.named.DomainName.TheVariants.{Spans};
@@ -12,7 +14,7 @@ mod records;
 
 use bay::Bay;
 use catalog::Spans as SpansDomain;
-use check::verdict;
+use checker::verdict;
 use fields::verdict_word;
 use named::DomainName;
 use plays::perform;

@@ -10,7 +10,7 @@ ghost use Rattle.routine_bay.specs.Plays.{Performs};
 use crate::fields::verdict_word;
 use bay::Bay;
 use catalog;
-use check::verdict;
+use checker::verdict;
 use domain::Domain;
 use sheet::Refusal;
 

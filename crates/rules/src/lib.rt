@@ -1,6 +1,8 @@
 // What the check of a sheet means over any domain, and the theorems about it.
 // specs/ has the rules; each theorem is the contract of a small function, and rests on the laws of a domain alone.
-// There is no other code here: the check itself is in the crate `check`.
+// There is no other code here: the check itself is in the crate `checker`.
+#![tactic(auto)]
+
 ghost use Rattle.domain.specs.Carrier.{as_dom};
 ghost use Rattle.rules.specs.Safety.{TakenIsSafe};
 

@@ -1,6 +1,8 @@
 // What every check is made of: the first refusal of a scan, and the records of a part.
 // A scan asks one question of each index below a count, in rising order, and stops at the first refusal.
 // A part is a run of records of one size; `piece` hands out one of them.
+#![tactic(auto)]
+
 ghost use Rattle.std.specs.Prelude.{◌≡◌, ◌+◌, ◌*◌, ◌<◌, ◌≤◌, length, Decides};
 ghost use Rattle.scan.specs.Scan.{chunk, word8};
 

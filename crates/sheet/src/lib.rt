@@ -1,6 +1,8 @@
 // A sheet: the bytes in which an office hands over a routine, its inputs and its table.
 // The view lays the three parts out over the borrowed bytes and reads inputs and rows; it believes nothing.
 // Whatever is wrong is one refusal: a number with its place.
+#![tactic(auto)]
+
 mod inputs;
 mod parts;
 mod refusals;

@@ -1,4 +1,6 @@
 // Spans: what is known of an integer by its least and its greatest possible value.
+#![tactic(auto)]
+
 ghost use Rattle.std.specs.Prelude.{◌≤ℤ◌};
 ghost use Rattle.number.specs.Exact.{least, greatest};
 

@@ -1,5 +1,7 @@
 // Strides: what is known of a variable by one modulus and one remainder.
 // A stride is a domain; its rules stand in specs/Strides.antt, and the contracts below say what they come to.
+#![tactic(auto)]
+
 mod divisors;
 mod value;
 mod working;

@@ -2,6 +2,8 @@
 // has and, if they are few, the bytes.
 // Standard input has the texts one after another; a line that begins with `===` ends a text, and names it.
 // Lines of a text are counted from 1.
+#![tactic(auto)]
+
 use lines::Mistake;
 use notation::Hexadecimal;
 use text::Draft;

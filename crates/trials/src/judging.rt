@@ -3,7 +3,7 @@ use catalog::{
     NonzeroPair, NonzeroSpans, NonzeroSpansStrides, NonzeroStrides, Spans, Spans8, Spans9,
     SpansNonzeroStrides, SpansStrides, Strides, StridesSpans,
 };
-use check::verdict;
+use checker::verdict;
 use sheet::Refusal;
 
 /// The verdict on a sheet in the domain of that name, if there is one.

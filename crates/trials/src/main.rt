@@ -7,6 +7,8 @@
 //   try AT=BYTE ..               reads the sheet with these bytes changed, and prints the answer
 //   judge DOMAIN AT=BYTE ..      prints the verdict on it in a domain, by its name in the crate `catalog`
 // A blank line, or one that begins with '#', is passed over. Numbers are decimal.
+#![tactic(auto)]
+
 mod judging;
 
 use anyhow::{Context, anyhow};

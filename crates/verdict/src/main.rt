@@ -2,10 +2,12 @@
 //   taken PLACES
 //   refused NUMBER PLACE WAY VARIABLE
 // It reads up to 65,536 bytes; a longer input is refused as a sheet of the wrong size.
+#![tactic(auto)]
+
 ghost use Rattle.rules.specs.Faults.{Meets};
 ghost use Rattle.verdict.specs.Printed.{printed};
 
-use check::verdict;
+use checker::verdict;
 use sheet::Refusal;
 use span::Span;
 use std::io;

@@ -1,4 +1,6 @@
 // A sheet of one domain made into a sheet of its pair with a second, which takes whatever the first takes.
+#![tactic(auto)]
+
 ghost use Rattle.std.specs.Prelude.{◌≡◌, length};
 ghost use Rattle.layers.specs.Piles.{Pile, dom_of};
 ghost use Rattle.widening.specs.Answers.{widen_answer, afterwards};

@@ -2,7 +2,7 @@
 ghost use Rattle.std.specs.Prelude.{◌≡◌, true, map};
 ghost use Rattle.machine.specs.Runs.{start};
 ghost use Rattle.sheet.specs.Views.{seen};
-ghost use Rattle.check.specs.Readable.{Readable};
+ghost use Rattle.checker.specs.Readable.{Readable};
 ghost use Rattle.rules.specs.Faults.{Meets};
 ghost use Rattle.rules.specs.Tables.{routine_of, verdict_of};
 ghost use Rattle.bay.specs.Calls.{Happens, offer as offering};
@@ -12,7 +12,7 @@ ghost use Rattle.bay.specs.Views.{offered, view};
 
 use super::Bay;
 use crate::Mode;
-use check::taken;
+use checker::taken;
 use domain::Domain;
 use machine::State;
 use sheet::{Refusal, Sheet};

@@ -2,12 +2,12 @@
 ghost use Rattle.std.specs.Prelude.{◌≡◌, ◌+◌, ◌<◌, [], ◌∷◌, ◌++◌, map, pos, slice_index_or, slice_set};
 ghost use Rattle.number.specs.Codes.{nth};
 ghost use Rattle.sheet.specs.Views.{seen};
-ghost use Rattle.check.specs.Readable.{Readable};
+ghost use Rattle.checker.specs.Readable.{Readable};
 ghost use Rattle.rules.specs.Tables.{routine_of};
 ghost use Rattle.bay.specs.Tables.{held_inputs, held_settings};
 
 use super::InputTable;
-use check::input_on;
+use checker::input_on;
 use machine::{Input, InputKind, MAX_INPUTS};
 use sheet::Sheet;
 

@@ -2,12 +2,12 @@
 ghost use Rattle.std.specs.Prelude.{◌≡◌, ◌+◌, ◌<◌, [], ◌∷◌, ◌++◌};
 ghost use Rattle.machine.specs.Runs.{row_on};
 ghost use Rattle.sheet.specs.Views.{seen};
-ghost use Rattle.check.specs.Readable.{Readable};
+ghost use Rattle.checker.specs.Readable.{Readable};
 ghost use Rattle.rules.specs.Tables.{routine_of};
 ghost use Rattle.bay.specs.Tables.{held_rows};
 
 use super::RowTable;
-use check::row_on;
+use checker::row_on;
 use machine::{MAX_PLACES, Row};
 use sheet::Sheet;
 

@@ -9,11 +9,11 @@ loop-count-init c = (none-at c.args.calls.now (view c.new-bay.result) c.new-bay.
 pub loop-count-preserved : goal.loop-count-preserved
 loop-count-preserved c =
     let l = c.loop-count in
-    let two = c.split-at-in-loop-count in (
+    let two = c.split_at-in-loop-count in (
       more-at c.args.calls.now (view l.bay) (view c.perform.new.bay) l.rest.now l.answers two.result.0.now two.result.1.now
           l.count c.perform.result c.in-Some.call l.invariant.0 c.in-Some.ensures
-          (two.ensures.front ∙ ap₂ (λ (n : ℕ) (bs : List ℕ). take n bs) c.sheet-size.ensures c.split-at.ensures.back)
-          (two.ensures.back ∙ ap₂ (λ (n : ℕ) (bs : List ℕ). drop n bs) c.sheet-size.ensures c.split-at.ensures.back)
+          (two.ensures.front ∙ ap₂ (λ (n : ℕ) (bs : List ℕ). take n bs) c.sheet_size.ensures c.split_at.ensures.back)
+          (two.ensures.back ∙ ap₂ (λ (n : ℕ) (bs : List ℕ). drop n bs) c.sheet_size.ensures c.split_at.ensures.back)
           c.perform.ensures (omega (arith, c.loop-count-test.true, l.auto.answers)),
       others-at l.answers c.args.answers.now l.count c.perform.result l.invariant.1,
     )

@@ -7,5 +7,5 @@ use Rattle.routine_bay.proofs.routine_bay_verdict_in_spans.Goals as goal
 
 pub returns : goal.returns
 returns c =
-    subst (λ (word : ℕ). Tells Spans c.args.sheet.now word) (sym c.verdict-word.ensures)
+    subst (λ (word : ℕ). Tells Spans c.args.sheet.now word) (sym c.verdict_word.ensures)
     (tells Spans c.args.sheet.now c.verdict.result c.verdict.ensures.value (safe-of Spans c.args.sheet.now c.verdict.result c.verdict.ensures.safe))

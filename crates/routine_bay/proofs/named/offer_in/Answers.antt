@@ -5,4 +5,4 @@ use Rattle.routine_bay.proofs.Quiet.{offered-quiet}
 use Rattle.routine_bay.proofs.named.offer_in.Goals as goal
 
 pub returns : goal.returns
-returns g c = (offered c.offer.result, c.offer.ensures.rule, offered-quiet c.offer.result, c.verdict-word.ensures ∙ offered-word c.offer.result)
+returns g c = (offered c.offer.result, c.offer.ensures.rule, offered-quiet c.offer.result, c.verdict_word.ensures ∙ offered-word c.offer.result)

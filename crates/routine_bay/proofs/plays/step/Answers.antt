@@ -5,4 +5,4 @@ use Rattle.routine_bay.proofs.Quiet.{stepped-quiet}
 use Rattle.routine_bay.proofs.plays.step.Goals as goal
 
 pub returns : goal.returns
-returns c = let f : SFits w32 c.args.call.value = search rules in (stepped c.step.result, simp to_z-of_z at c.step.ensures.rule, stepped-quiet c.step.result c.step.ensures.quiet, c.step-word.ensures)
+returns c = let f : SFits w32 c.args.call.value = search rules in (stepped c.step.result, simp to_z-of_z at c.step.ensures.rule, stepped-quiet c.step.result c.step.ensures.quiet, c.step_word.ensures)

@@ -4,8 +4,8 @@ use Rattle.widening.proofs.Moved.{small-table}
 use Rattle.widening.proofs.Puts.{put_four, table-with-sized}
 use Rattle.widening.proofs.sheets.put_sheet.Goals as goal
 
-pub put-head-requires : goal.put-head-requires
-put-head-requires g c =
+pub put_head-requires : goal.put_head-requires
+put_head-requires g c =
     let s = c.args.sheet.now in
     let table = small-table s.places s.variables (c.args.width + c.width.result) c.requires.fits.places c.requires.fits.variables (omega (arith, g.met.B.Domain.reading.width_small)) in
     record {
@@ -21,8 +21,8 @@ returns g c =
     let i = s.inputs.bytes.now in
     let r = s.rows.bytes.now in
     let long = table-with-sized q c.args.width s.variables s.places s.table.bytes.now c.requires.whole in
-    put_four c.args.out.now c.put-head.new.out c.put-bytes.new.out c.put-bytes-2.new.out c.put-table.new.out 28 (28 + length i) (28 + length i + length r)
+    put_four c.args.out.now c.put_head.new.out c.put_bytes.new.out c.put_bytes-2.new.out c.put_table.new.out 28 (28 + length i) (28 + length i + length r)
     (head_with s.variables s.input_count (length i) (length r) (s.places * (1 + s.variables * (c.args.width + q.width)))) i r
     (table_with q c.args.width s.variables s.table.bytes.now s.places)
-    (c.put-head.ensures ∙ ap (λ w. put c.args.out.now 0 (head_with s.variables s.input_count (length i) (length r) (s.places * (1 + s.variables * (c.args.width + w))))) c.width.ensures)
-    c.put-bytes.ensures c.put-bytes-2.ensures c.put-table.ensures (omega arith) (omega arith) (omega arith) (omega (arith, c.requires.room))
+    (c.put_head.ensures ∙ ap (λ w. put c.args.out.now 0 (head_with s.variables s.input_count (length i) (length r) (s.places * (1 + s.variables * (c.args.width + w))))) c.width.ensures)
+    c.put_bytes.ensures c.put_bytes-2.ensures c.put_table.ensures (omega arith) (omega arith) (omega arith) (omega (arith, c.requires.room))

@@ -6,5 +6,5 @@ use Rattle.widening.proofs.writes.put_cell.Goals as goal
 
 pub returns : goal.returns
 returns g c =
-    put_both c.args.out.now c.put-bytes.new.out c.put-blanks.new.out c.args.at _ c.args.cell.now (blanks g.B.Domain.ops)
-    c.put-bytes.ensures c.put-blanks.ensures (omega arith) (omega (arith, blanks-length g.B.Domain.ops))
+    put_both c.args.out.now c.put_bytes.new.out c.put_blanks.new.out c.args.at _ c.args.cell.now (blanks g.B.Domain.ops)
+    c.put_bytes.ensures c.put_blanks.ensures (omega arith) (omega (arith, blanks-length g.B.Domain.ops))

@@ -5,5 +5,5 @@ use Rattle.widening.proofs.writes.put_pair.Goals as goal
 
 pub returns : goal.returns
 returns c =
-    put_both c.args.out.now c.put-word.new.out c.put-word-2.new.out c.args.at _ (word_bytes c.args.offset) (word_bytes c.args.len)
-    c.put-word.ensures c.put-word-2.ensures (omega arith) (omega arith)
+    put_both c.args.out.now c.put_word.new.out c.put_word-2.new.out c.args.at _ (word_bytes c.args.offset) (word_bytes c.args.len)
+    c.put_word.ensures c.put_word-2.ensures (omega arith) (omega arith)

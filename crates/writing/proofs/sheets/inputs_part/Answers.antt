@@ -7,8 +7,8 @@ use Rattle.writing.proofs.sheets.inputs_part.Goals as goal
 
 pub loop-input-preserved : goal.loop-input-preserved
 loop-input-preserved c =
-    pushed (vec_items c.loop-input.part) (vec_items c.extend-from-slice.new.self) c.input-bytes.result _ _ c.extend-from-slice.ensures.items c.in-ok-extend-from-slice.was
-    ∙ ap₂ ◌++◌ c.loop-input.invariant c.input-bytes.ensures
+    pushed (vec_items c.loop-input.part) (vec_items c.extend_from_slice.new.self) c.input_bytes.result _ _ c.extend_from_slice.ensures.items c.in_ok-extend_from_slice.was
+    ∙ ap₂ ◌++◌ c.loop-input.invariant c.input_bytes.ensures
     ∙ sym (joined-more input_bytes c.args.inputs.now c.loop-input.input-index _ c.loop-input-test.true)
 
 pub returns : goal.returns

@@ -8,8 +8,8 @@ use Rattle.writing.proofs.sheets.rows_part.Goals as goal
 
 pub loop-row-preserved : goal.loop-row-preserved
 loop-row-preserved c =
-    pushed (vec_items c.loop-row.part) (vec_items c.extend-from-slice.new.self) c.row-bytes.result _ _ c.extend-from-slice.ensures.items c.in-ok-extend-from-slice.was
-    ∙ ap₂ ◌++◌ c.loop-row.invariant c.row-bytes.ensures
+    pushed (vec_items c.loop-row.part) (vec_items c.extend_from_slice.new.self) c.row_bytes.result _ _ c.extend_from_slice.ensures.items c.in_ok-extend_from_slice.was
+    ∙ ap₂ ◌++◌ c.loop-row.invariant c.row_bytes.ensures
     ∙ sym (joined-more row_bytes c.args.rows.now c.loop-row.row-index _ c.loop-row-test.true)
 
 pub returns : goal.returns

@@ -6,10 +6,10 @@ use Rattle.bay.specs.Tables.{held_inputs, held_rows, held_settings}
 use Rattle.bay.proofs.Stepping.{setting_kept}
 use Rattle.bay.proofs.bays.Bay.change.Goals as goal
 
-pub invariant-of-self : goal.invariant-of-self
-invariant-of-self c =
+pub invariant_of-self : goal.invariant_of-self
+invariant_of-self c =
     let b = c.args.self.now in
     let f = c.ranges.value in
     setting_kept (held_inputs b.inputs) (held_inputs c.set.new.self) (held_settings b.inputs) (held_settings c.set.new.self)
     (held_rows b.rows) start (shown b.state) c.args.number c.in-Some.input c.args.value
-    c.set.ensures.inputs (simp to_z-of_z at c.set.ensures.settings) b.set c.in-Some.ensures (sym (simp to_z-of_z at c.if-not-is-allowed.ensures)) b.safe b.calm
+    c.set.ensures.inputs (simp to_z-of_z at c.set.ensures.settings) b.set c.in-Some.ensures (sym (simp to_z-of_z at c.if-not-is_allowed.ensures)) b.safe b.calm

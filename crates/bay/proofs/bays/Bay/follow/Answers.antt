@@ -9,8 +9,8 @@ use Rattle.bay.specs.declared.Mode.{Mode}
 use Rattle.bay.proofs.Stepping.{follows-calm}
 use Rattle.bay.proofs.bays.Bay.follow.Goals as goal
 
-pub invariant-of-self : goal.invariant-of-self
-invariant-of-self c =
+pub invariant_of-self : goal.invariant_of-self
+invariant_of-self c =
     let b = c.args.self.now in
     let f = c.ranges.taken in (
       b.set,
@@ -31,6 +31,6 @@ returns c =
     let f = c.ranges.taken in
     record {
       value = simp to_z-of_z at c.step-outcome.ensures.outcome;
-      after = ap₂ (λ (m : Mode) (s : Spot). with_state s (with_mode m (view b))) c.mode-after-self.ensures (simp to_z-of_z at c.step-outcome.ensures.state);
+      after = ap₂ (λ (m : Mode) (s : Spot). with_state s (with_mode m (view b))) c.mode_after-self.ensures (simp to_z-of_z at c.step-outcome.ensures.state);
       told = simp to_z-of_z at (c.step-outcome.ensures.told (held_inputs b.inputs));
     }

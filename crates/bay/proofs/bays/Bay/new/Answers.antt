@@ -5,8 +5,8 @@ use Rattle.bay.specs.Tables.{held_inputs, held_rows}
 use Rattle.bay.proofs.Calms.{none-traps}
 use Rattle.bay.proofs.bays.Bay.new.Goals as goal
 
-pub invariant-of-result : goal.invariant-of-result
-invariant-of-result c = (
+pub invariant_of-result : goal.invariant_of-result
+invariant_of-result c = (
   search rules,
   (
     none-traps (held_inputs c.new.result) (held_rows c.new-2.result) start c.new-2.ensures,

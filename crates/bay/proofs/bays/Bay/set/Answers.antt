@@ -6,6 +6,6 @@ use Rattle.bay.proofs.bays.Bay.set.Goals as goal
 
 pub returns : goal.returns
 returns c =
-    let p = set_clauses (view c.args.self.now) (view c.try-set.new.self) c.args.number c.args.value (to_z w32 (of_z w32 c.args.value))
-    c.try-set.result (to_z-of_z w32 c.args.value c.ranges.value) c.try-set.ensures.value c.try-set.ensures.after in
+    let p = set_clauses (view c.args.self.now) (view c.try_set.new.self) c.args.number c.args.value (to_z w32 (of_z w32 c.args.value))
+    c.try_set.result (to_z-of_z w32 c.args.value c.ranges.value) c.try_set.ensures.value c.try_set.ensures.after in
     record { value = p.0; after = p.1; rule = p.2 }

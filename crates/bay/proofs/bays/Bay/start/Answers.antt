@@ -8,10 +8,10 @@ use Rattle.bay.proofs.bays.Bay.start.Goals as goal
 pub returns : goal.returns
 returns c =
     let v = view c.args.self.now in
-    let value = c.try-start.ensures.value in
-    let after = c.try-start.ensures.after in
+    let value = c.try_start.ensures.value in
+    let after = c.try_start.ensures.after in
     record {
       value = value;
       after = after;
-      rule = as-case v (view c.try-start.new.self) (Calls.begin) _ _ _ (ap finished value) after (start-happens v);
+      rule = as-case v (view c.try_start.new.self) (Calls.begin) _ _ _ (ap finished value) after (start-happens v);
     }

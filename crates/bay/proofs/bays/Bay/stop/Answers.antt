@@ -8,10 +8,10 @@ use Rattle.bay.proofs.bays.Bay.stop.Goals as goal
 pub returns : goal.returns
 returns c =
     let v = view c.args.self.now in
-    let value = c.try-stop.ensures.value in
-    let after = c.try-stop.ensures.after in
+    let value = c.try_stop.ensures.value in
+    let after = c.try_stop.ensures.after in
     record {
       value = value;
       after = after;
-      rule = as-case v (view c.try-stop.new.self) (Calls.stop) _ _ _ (ap finished value) after (stop-happens v);
+      rule = as-case v (view c.try_stop.new.self) (Calls.stop) _ _ _ (ap finished value) after (stop-happens v);
     }

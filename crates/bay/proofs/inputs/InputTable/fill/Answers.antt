@@ -11,8 +11,8 @@ loop-number-preserved c =
     let s = seen c.args.sheet.now in
     let i = c.loop-number.number in
     let f = λ (j : ℕ). input_in (chunk 9 j c.args.sheet.now.inputs.bytes.now) in
-    let is = c.input-on.ensures ∙ input-here s i c.loop-number-test.true in (
+    let is = c.input_on.ensures ∙ input-here s i c.loop-number-test.true in (
       search rules,
-      filled_more f i _ _ c.input-on.result c.loop-number.invariant.1 c.push.ensures.inputs is,
-      mapped-more f i (λ (n : Input). n.lo) _ _ c.input-on.result c.loop-number.invariant.2 c.push.ensures.settings is,
+      filled_more f i _ _ c.input_on.result c.loop-number.invariant.1 c.push.ensures.inputs is,
+      mapped-more f i (λ (n : Input). n.lo) _ _ c.input_on.result c.loop-number.invariant.2 c.push.ensures.settings is,
     )

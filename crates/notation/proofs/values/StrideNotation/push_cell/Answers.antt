@@ -6,6 +6,6 @@ pub returns : goal.returns
 returns c =
     let old = vec_items c.args.out.now in
     record {
-      added = pushed old (vec_items c.extend-from-slice.new.self) c.stride-cell.result _ _ c.extend-from-slice.ensures.items c.in-ok-extend-from-slice.was ∙ ap (λ m. old ++ m) c.stride-cell.ensures;
+      added = pushed old (vec_items c.extend_from_slice.new.self) c.stride_cell.result _ _ c.extend_from_slice.ensures.items c.in_ok-extend_from_slice.was ∙ ap (λ m. old ++ m) c.stride_cell.ensures;
       held = λ _. stride-held c.args.self.now;
     }

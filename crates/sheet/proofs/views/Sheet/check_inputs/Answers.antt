@@ -5,15 +5,15 @@ use Rattle.sheet.specs.Inputs.{input_at}
 use Rattle.sheet.specs.Views.{seen}
 use Rattle.sheet.proofs.views.Sheet.check_inputs.Goals as goal
 
-pub returns-in-err-input : goal.returns-in-err-input
-returns-in-err-input c =
+pub returns-in_err-input : goal.returns-in_err-input
+returns-in_err-input c =
     let s = seen c.args.self.now in
-    let p = err_from_is_err_and c.from-residual.result c.from-residual.ensures.1 in
-    let stops = passed-err (input_at s c.loop-number.number) _ c.in-err-input.ensures in
+    let p = err_from_is_err_and c.from_residual.result c.from_residual.ensures.1 in
+    let stops = passed-err (input_at s c.loop-number.number) _ c.in_err-input.ensures in
     rw (p.1, p.2) (up-stops (λ i. passed (input_at s i)) c.loop-number.number _ _ c.loop-number.invariant stops c.loop-number-test.true)
 
 pub loop-number-preserved : goal.loop-number-preserved
 loop-number-preserved c =
     let s = seen c.args.self.now in
-    let here = passed_ok (input_at s c.loop-number.number) _ c.in-ok-input.ensures in
+    let here = passed_ok (input_at s c.loop-number.number) _ c.in_ok-input.ensures in
     up_next (λ i. passed (input_at s i)) c.loop-number.number c.loop-number.invariant here

@@ -5,15 +5,15 @@ use Rattle.sheet.specs.Rows.{row_at}
 use Rattle.sheet.specs.Views.{seen}
 use Rattle.sheet.proofs.views.Sheet.check_rows.Goals as goal
 
-pub returns-in-err-row : goal.returns-in-err-row
-returns-in-err-row c =
+pub returns-in_err-row : goal.returns-in_err-row
+returns-in_err-row c =
     let s = seen c.args.self.now in
-    let p = err_from_is_err_and c.from-residual.result c.from-residual.ensures.1 in
-    let stops = passed-err (row_at s c.loop-place.place) _ c.in-err-row.ensures in
+    let p = err_from_is_err_and c.from_residual.result c.from_residual.ensures.1 in
+    let stops = passed-err (row_at s c.loop-place.place) _ c.in_err-row.ensures in
     rw (p.1, p.2) (up-stops (λ i. passed (row_at s i)) c.loop-place.place _ _ c.loop-place.invariant stops c.loop-place-test.true)
 
 pub loop-place-preserved : goal.loop-place-preserved
 loop-place-preserved c =
     let s = seen c.args.self.now in
-    let here = passed_ok (row_at s c.loop-place.place) _ c.in-ok-row.ensures in
+    let here = passed_ok (row_at s c.loop-place.place) _ c.in_ok-row.ensures in
     up_next (λ i. passed (row_at s i)) c.loop-place.place c.loop-place.invariant here

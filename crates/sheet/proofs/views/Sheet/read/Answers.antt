@@ -5,5 +5,5 @@ use Rattle.sheet.proofs.views.Sheet.read.Goals as goal
 pub returns : goal.returns
 returns c = record {
   value = c.checked.ensures;
-  meaning = means c.args.bytes.now (λ i. (c.type-inv.bytes i).fits) (seen_in c.checked.result) c.checked.ensures;
+  meaning = means c.args.bytes.now (λ i. (c.type_inv.bytes i).fits) (seen_in c.checked.result) c.checked.ensures;
 }

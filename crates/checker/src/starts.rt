@@ -1,0 +1,43 @@
+// Entry 0 is present, and covers the variables as a run starts: all 0.
+ghost use Rattle.std.specs.Prelude.{◌≡◌, ◌<◌};
+ghost use Rattle.scan.specs.Scan.{up_to};
+ghost use Rattle.rules.specs.Checks.{start_right};
+ghost use Rattle.rules.specs.Faults.{Meets};
+ghost use Rattle.checker.specs.Grids.{routine_in, claims_in};
+ghost use Rattle.checker.specs.Scans.{start_cell};
+
+use crate::cells::{claimed, present};
+use crate::grids::Grid;
+use domain::Domain;
+use sheet::Refusal;
+
+// Entry 0 covers the value of 0 for a variable.
+fn check_zero<D: Domain>(grid: &Grid<'_>, variable: usize) -> Result<(), Refusal>
+    requires { variable < grid.now.sheet.variables }
+    ensures { Meets result (start_cell D.Domain.ops grid.now variable) }
+{
+    if D::covers(claimed::<D>(grid, 0, variable), D::value(0, 0)) {
+        Ok(())
+    } else {
+        Err(Refusal::StartUncovered { variable })
+    }
+}
+
+// Entry 0 covers the value of 0 for every variable.
+fn check_zeros<D: Domain>(grid: &Grid<'_>) -> Result<(), Refusal>
+    ensures { Meets result (up_to (start_cell D.Domain.ops grid.now) grid.now.sheet.variables) }
+{
+    for variable in 0..grid.sheet.variables {
+        check_zero::<D>(grid, variable)?;
+    }
+    Ok(())
+}
+
+pub(crate) fn check_start<D: Domain>(grid: &Grid<'_>) -> Result<(), Refusal>
+    ensures { Meets result (start_right D.Domain.ops (routine_in grid.now) (claims_in D.Domain.ops grid.now)) }
+{
+    if !present::<D>(grid, 0) {
+        return Err(Refusal::StartUncovered { variable: 16 });
+    }
+    check_zeros::<D>(grid)
+}
