@@ -111,13 +111,11 @@ module _ (inputs : List Input) (rows : List Row) (s s' : Spot) (c : ℤ) (calm :
 pub setting_kept : (is₀ is₁ : List Input) (zs₀ zs₁ : List ℤ) (rows : List Row) (s₀ s₁ : Spot) (k : ℕ) (i : Input) (z : ℤ)
     → is₁ ≡ is₀ → zs₁ ≡ set zs₀ k z → settled is₀ zs₀ ≡ true → Some i ≡ nth is₀ k → allows i z ≡ true
     → (CanTrap is₀ rows s₀ → ⊥) → (CanTrap is₀ rows s₁ → ⊥)
-    → (settled is₁ zs₁ ≡ true) × ((CanTrap is₁ rows s₀ → ⊥) × ((CanTrap is₁ rows s₁ → ⊥) × Unit {0}))
+    → (settled is₁ zs₁ ≡ true) × (CanTrap is₁ rows s₀ → ⊥) × (CanTrap is₁ rows s₁ → ⊥)
 setting_kept is₀ is₁ zs₀ zs₁ rows s₀ s₁ k i z same changed before at allowed safe calm = (
   ap₂ settled same changed ∙ set-settled is₀ zs₀ k i z before (sym at) allowed,
-  (
-    subst (λ (is : List Input). CanTrap is rows s₀ → ⊥) (sym same) safe,
-    (subst (λ (is : List Input). CanTrap is rows s₁ → ⊥) (sym same) calm, tt),
-  ),
+  subst (λ (is : List Input). CanTrap is rows s₀ → ⊥) (sym same) safe,
+  subst (λ (is : List Input). CanTrap is rows s₁ → ⊥) (sym same) calm,
 )
 
 -- the same, where the row has been read

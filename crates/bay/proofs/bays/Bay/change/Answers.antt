@@ -10,6 +10,9 @@ pub invariant_of-self : goal.invariant_of-self
 invariant_of-self c =
     let b = c.args.self.now in
     let f = c.ranges.value in
-    setting_kept (held_inputs b.inputs) (held_inputs c.set.new.self) (held_settings b.inputs) (held_settings c.set.new.self)
-    (held_rows b.rows) start (shown b.state) c.args.number c.in-Some.input c.args.value
-    c.set.ensures.inputs (simp to_z-of_z at c.set.ensures.settings) b.set c.in-Some.ensures (sym (simp to_z-of_z at c.if-not-is_allowed.ensures)) b.safe b.calm
+    let kept =
+      setting_kept (held_inputs b.inputs) (held_inputs c.set.new.self) (held_settings b.inputs) (held_settings c.set.new.self)
+      (held_rows b.rows) start (shown b.state) c.args.number c.in-Some.input c.args.value
+      c.set.ensures.inputs (simp to_z-of_z at c.set.ensures.settings) b.set c.in-Some.ensures (sym (simp to_z-of_z at c.if-not-is_allowed.ensures)) b.safe b.calm
+    in
+    record { set = kept.0; safe = kept.1; calm = kept.2 }

@@ -12,18 +12,15 @@ use Rattle.bay.proofs.bays.Bay.follow.Goals as goal
 pub invariant_of-self : goal.invariant_of-self
 invariant_of-self c =
     let b = c.args.self.now in
-    let f = c.ranges.taken in (
-      b.set,
-      (
-        b.safe,
-        (
-          follows-calm (held_inputs b.inputs) (held_rows b.rows) (shown b.state) (shown c.step-outcome.new.self) c.args.taken
-              c.args.row c.step-outcome.result c.requires.here b.calm
-              (simp to_z-of_z at (c.step-outcome.ensures.told (held_inputs b.inputs))) c.requires.may,
-          tt,
-        ),
-      ),
-    )
+    let f = c.ranges.taken in
+    record {
+      set = b.set;
+      safe = b.safe;
+      calm =
+        follows-calm (held_inputs b.inputs) (held_rows b.rows) (shown b.state) (shown c.step-outcome.new.self) c.args.taken
+        c.args.row c.step-outcome.result c.requires.here b.calm
+        (simp to_z-of_z at (c.step-outcome.ensures.told (held_inputs b.inputs))) c.requires.may;
+    }
 
 pub returns : goal.returns
 returns c =

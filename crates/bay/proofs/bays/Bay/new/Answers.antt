@@ -6,10 +6,8 @@ use Rattle.bay.proofs.Calms.{none-traps}
 use Rattle.bay.proofs.bays.Bay.new.Goals as goal
 
 pub invariant_of-result : goal.invariant_of-result
-invariant_of-result c = (
-  search rules,
-  (
-    none-traps (held_inputs c.new.result) (held_rows c.new-2.result) start c.new-2.ensures,
-    (none-traps (held_inputs c.new.result) (held_rows c.new-2.result) (shown c.start.result) c.new-2.ensures, tt),
-  ),
-)
+invariant_of-result c = record {
+  set = search rules;
+  safe = none-traps (held_inputs c.new.result) (held_rows c.new-2.result) start c.new-2.ensures;
+  calm = none-traps (held_inputs c.new.result) (held_rows c.new-2.result) (shown c.start.result) c.new-2.ensures;
+}
