@@ -11,8 +11,8 @@ invariant_of-self c =
     let b = c.args.self.now in
     let f = c.ranges.value in
     let kept =
-      setting_kept (held_inputs b.inputs) (held_inputs c.set.new.self) (held_settings b.inputs) (held_settings c.set.new.self)
-      (held_rows b.rows) start (shown b.state) c.args.number c.in-Some.input c.args.value
-      c.set.ensures.inputs (simp to_z-of_z at c.set.ensures.settings) b.set c.in-Some.ensures (sym (simp to_z-of_z at c.if-not-is_allowed.ensures)) b.safe b.calm
+    setting_kept (held_inputs b.inputs) (held_inputs c.set.new.self) (held_settings b.inputs) (held_settings c.set.new.self)
+    (held_rows b.rows) start (shown b.state) c.args.number c.in-Some.input c.args.value
+    c.set.ensures.inputs (simp to_z-of_z at c.set.ensures.settings) b.set c.in-Some.ensures (sym (simp to_z-of_z at c.if-not-is_allowed.ensures)) b.safe b.calm
     in
     record { set = kept.0; safe = kept.1; calm = kept.2 }

@@ -17,9 +17,9 @@ invariant_of-self c =
       set = b.set;
       safe = b.safe;
       calm =
-        follows-calm (held_inputs b.inputs) (held_rows b.rows) (shown b.state) (shown c.step-outcome.new.self) c.args.taken
-        c.args.row c.step-outcome.result c.requires.here b.calm
-        (simp to_z-of_z at (c.step-outcome.ensures.told (held_inputs b.inputs))) c.requires.may;
+          follows-calm (held_inputs b.inputs) (held_rows b.rows) (shown b.state) (shown c.step-outcome.new.self) c.args.taken
+          c.args.row c.step-outcome.result c.requires.here b.calm
+          (simp to_z-of_z at (c.step-outcome.ensures.told (held_inputs b.inputs))) c.requires.may;
     }
 
 pub returns : goal.returns
