@@ -1,5 +1,5 @@
 -- The laws of the product of integers. Assumes nothing.
-use Rattle.std.proofs.Common.{◌≡◌, ℕ, ◌*◌, ℤ, pos, ◌+ℤ◌, ◌-ℤ◌, ◌*ℤ◌, neg_ℤ, sym, ap, ◌∙◌, arith}
+use Rattle.std.proofs.Common.{◌≡◌, ℕ, ◌*◌, ℤ, ◌+ℤ◌, ◌*ℤ◌, neg_ℤ, ap, arith}
 use borrow.Author.Differences.{up, down, sum_is_lem, product_is, neg_is}
 use Rattle.std.proofs.lemmas.Int.{ints}
 

@@ -1,9 +1,8 @@
 -- Quotients toward zero: their size, and how they rise and fall. Assumes nothing.
-use Rattle.std.proofs.Common.{◌≡◌, ℕ, zero, suc, ◌+◌, ◌*◌, ◌/◌, ◌<◌, ◌≤◌, ℤ, pos, negsuc, neg_ℤ, ◌≤ℤ◌, ◌<ℤ◌, sym, refl, ap, ◌∙◌, subst, mul_comm, mul-le-mul_left, div-le_self, arith, w32, w64, SFits}
+use Rattle.std.proofs.Common.{◌≡◌, ℕ, zero, suc, ◌+◌, ◌/◌, ◌<◌, ◌≤◌, ℤ, pos, negsuc, neg_ℤ, ◌≤ℤ◌, sym, refl, mul-le-mul_left, div-le_self, arith, w32, w64, SFits}
 use native.Mathlib.Nat.{div-zero, mul-div-le}
 use lib.IntN.{neg_ℤ-neg_ℤ}
 use lib.Signed.{mag, quot_z}
-use borrow.Author.Differences.{neg_is}
 use Rattle.std.proofs.lemmas.Int.{ints}
 use Rattle.std.proofs.lemmas.Nat.{le-div}
 

@@ -1,6 +1,6 @@
 -- No trap is reached: from an empty routine, and one step on. Assumes nothing.
-use Rattle.std.proofs.Common.{◌≡◌, List, [], sym, refl, ap, ◌∙◌, subst}
-use Rattle.machine.specs.Runs.{Spot, start}
+use Rattle.std.proofs.Common.{◌≡◌, List, [], sym, subst}
+use Rattle.machine.specs.Runs.{Spot}
 use Rattle.machine.specs.declared.Input.{Input}
 use Rattle.machine.specs.declared.Row.{Row}
 use Rattle.bay.specs.Calm.{CanTrap}

@@ -1,10 +1,9 @@
 -- A table filled one element after another. Assumes nothing.
-use Rattle.std.proofs.Common.{◌≡◌, ℕ, ◌+◌, ◌<◌, List, [], ◌∷◌, ◌++◌, map, sym, refl, ap, ◌∙◌, ap₂, arith}
+use Rattle.std.proofs.Common.{◌≡◌, ℕ, ◌+◌, ◌<◌, List, [], ◌∷◌, ◌++◌, map, sym, ap, ◌∙◌, ap₂, arith}
 use Rattle.std.proofs.lemmas.List.FromFn.{get_or-map-range_with_len, map-range_with_len_more}
 use Rattle.std.proofs.lemmas.List.{map_push}
 use Rattle.std.specs.List.{range_with_len}
 use Rattle.scan.specs.Scan.{chunk}
-use Rattle.machine.specs.declared.Input.{Input}
 use Rattle.sheet.specs.Inputs.{input_in}
 use Rattle.sheet.specs.Parts.{Parts}
 use Rattle.rules.specs.Tables.{routine_of}

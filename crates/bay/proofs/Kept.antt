@@ -1,8 +1,8 @@
 -- No call on a sound bay answers a trap, and each leaves it sound. Assumes nothing.
-use Rattle.std.proofs.Common.{◌≡◌, ℕ, ◌+◌, List, [], ℤ, Ok, Err, Result, sym, refl, ap, ◌∙◌, subst, arith}
+use Rattle.std.proofs.Common.{◌≡◌, ℕ, List, [], Ok, Result, sym, refl, ap, ◌∙◌, subst, arith}
 use Rattle.number.specs.declared.Trap.{Trap}
 use Rattle.machine.specs.Imp.{Stmt, assign, branch, done as finished}
-use Rattle.machine.specs.Runs.{Spot, start, Step, Trapped, Traps, zero, range, Reaches, stays, onward}
+use Rattle.machine.specs.Runs.{Spot, start, Trapped, Traps, zero, range, Reaches, stays, onward}
 use Rattle.machine.specs.declared.Input.{Input}
 use Rattle.machine.specs.declared.Row.{Row}
 use Rattle.machine.specs.declared.Row.TheVariants.{End}
@@ -12,7 +12,7 @@ use Rattle.rules.specs.Faults.{Fault}
 use Rattle.rules.specs.Tables.{routine_of}
 use Rattle.bay.specs.Calls
 use Rattle.bay.specs.Calls.{Call, Answer, taken, moved, ended, trapped, shown, refused, Happens, nothing_held, runs_already, does_not_run, offer_taken, offer_refused, started, set_changed, set_nothing, set_outside, stepped, step_ended, step_trapped, step_outside, stopped, shows, shows_nothing}
-use Rattle.bay.specs.Model.{View, nothing, holding, with_mode, with_state, with_settings}
+use Rattle.bay.specs.Model.{View, nothing, with_mode}
 use Rattle.bay.specs.Stands.{traps_in}
 use Rattle.bay.specs.declared.Mode.{Mode}
 use Rattle.bay.specs.declared.Mode.TheVariants.{Empty, Held, Running}

@@ -1,5 +1,5 @@
 -- What each call does is a case of the rules. Assumes nothing.
-use Rattle.std.proofs.Common.{◌≡◌, ℕ, ◌<◌, ◌≤◌, Bool, true, false, cond, ltb, List, get_or, set, ℤ, pos, Some, None, Ok, Err, Option, Result, sym, refl, ap, ◌∙◌, subst, arith}
+use Rattle.std.proofs.Common.{◌≡◌, ℕ, Bool, true, false, cond, ltb, set, ℤ, Some, None, Ok, Err, Option, sym, refl, ap, ◌∙◌, subst, arith}
 use Rattle.std.proofs.lemmas.Bool.{ltb-true, ltb-false}
 use Rattle.number.specs.Codes.{nth}
 use Rattle.machine.specs.Imp.{look_up}
@@ -8,8 +8,7 @@ use Rattle.machine.specs.Runs.{start}
 use Rattle.machine.specs.declared.Input.{Input}
 use Rattle.machine.specs.declared.InputKind.{InputKind}
 use Rattle.machine.specs.declared.InputKind.TheVariants.{Reading, Setting}
-use Rattle.sheet.specs.declared.refusals.Refusal.{Refusal}
-use Rattle.sheet.specs.declared.refusals.Refusal.TheVariants.{NoSetting, SettingOutside, ReadingOutside, NoVariable, NothingHeld, Running as RunsAlready, NotRunning}
+use Rattle.sheet.specs.declared.refusals.Refusal.TheVariants.{SettingOutside, NoVariable, NothingHeld, Running as RunsAlready, NotRunning}
 use Rattle.bay.specs.Calls
 use Rattle.bay.specs.Calls.{Call, Answer, Happens, nothing_held, runs_already, does_not_run, offer_taken, offer_refused, started, set_changed, set_nothing, set_outside, stepped, step_ended, step_trapped, step_outside, stopped, shows, shows_nothing}
 use Rattle.bay.specs.Model.{View, Done, by_mode, start_of, stop_of, set_of, set_to, set_kind, show_of, shows_of, is_running, with_mode, with_state, with_settings}

@@ -1,14 +1,11 @@
 -- The three counts are zero. Assumes nothing.
-use Rattle.std.proofs.Common.{◌≡◌, ℕ, ◌+◌, List, [], Ok, Err, Result, sym, refl, ap, ◌∙◌, subst, arith}
-use Rattle.sheet.specs.Bytes.{AllBytes}
-use Rattle.sheet.specs.Parts.{Parts}
+use Rattle.std.proofs.Common.{◌≡◌, ℕ, List, [], Ok, Result, sym, refl, ap, ◌∙◌, arith}
 use Rattle.sheet.specs.Sheets.{sheet_of}
 use Rattle.domain.specs.Carrier.{Dom, Lawful}
-use Rattle.layers.specs.Piles.{Pile, dom_of}
+use Rattle.layers.specs.Piles.{dom_of}
 use Rattle.layers.proofs.PileLaws.{pile-lawful}
 use Rattle.rules.specs.Faults.{Fault}
-use Rattle.rules.specs.Safety.{TakenIsSafe}
-use Rattle.rules.specs.Tables.{routine_of, verdict_of}
+use Rattle.rules.specs.Tables.{verdict_of}
 use Rattle.rules.proofs.Sheets.{taken-is-safe}
 use Rattle.widening.proofs.Paired.{pairing}
 use Rattle.bay.specs.Calls
@@ -16,7 +13,7 @@ use Rattle.bay.specs.Calls.{Call}
 use Rattle.bay.specs.Model.{View}
 use Rattle.bay.specs.Stands
 use Rattle.bay.specs.Stands.{Asked, offer_in, call_of, traps_in, Succession, none, after, NeverTraps}
-use Rattle.bay.proofs.Kept.{Sound, Untrapped, Judges, Fine, fine, nothing-sound}
+use Rattle.bay.proofs.Kept.{Sound, Judges, fine, nothing-sound}
 
 -- how an offer judges, and what it offers
 abbrev judging : Call → List ℕ → Result ℕ Fault

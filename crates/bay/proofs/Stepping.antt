@@ -1,9 +1,8 @@
 -- One step of a calm bay: it takes only what its inputs may give, answers no trap, and leaves it calm. Assumes nothing.
-use Rattle.std.proofs.Common.{◌≡◌, ℕ, zero, suc, Bool, true, false, cond, ◌&&◌, List, [], ◌∷◌, get_or, set, ℤ, pos, Some, None, Ok, Err, Option, Result, sym, refl, ap, ◌∙◌, subst, ap₂, arith}
+use Rattle.std.proofs.Common.{◌≡◌, ℕ, zero, suc, Bool, true, false, cond, List, [], ◌∷◌, get_or, set, ℤ, pos, Some, None, Ok, Err, Option, sym, refl, ap, ◌∙◌, subst, ap₂, arith}
 use Rattle.std.proofs.lemmas.Bool.{and_parts, and_from}
 use Rattle.scan.proofs.Scans.{ok_same, err-is-not-ok}
 use Rattle.number.specs.Codes.{nth}
-use Rattle.number.specs.declared.Trap.{Trap}
 use Rattle.machine.specs.Inputs.{allows, may_give}
 use Rattle.machine.specs.Runs.{Spot, row_on, stays}
 use Rattle.machine.specs.Steps.{MayTake, Told}
@@ -15,10 +14,9 @@ use Rattle.machine.specs.declared.Row.TheVariants.{End, Put, Take, Work, Fork}
 use Rattle.machine.specs.declared.states.Outcome.{Outcome}
 use Rattle.machine.specs.declared.states.Outcome.TheVariants.{At, Ended, Trapped}
 use Rattle.machine.proofs.Reached.{reaches-first}
-use Rattle.sheet.specs.declared.refusals.Refusal.{Refusal}
 use Rattle.sheet.specs.declared.refusals.Refusal.TheVariants.{ReadingOutside}
 use Rattle.bay.specs.Calm.{CanTrap, settled}
-use Rattle.bay.specs.Model.{View, from_kind, from_input, taken_by, row_now}
+use Rattle.bay.specs.Model.{View, from_kind, from_input, taken_by}
 use Rattle.bay.specs.Views.{NoTrap}
 
 abbrev full : {A : Type 0} → Option A → Type 0

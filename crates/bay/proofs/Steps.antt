@@ -1,5 +1,5 @@
 -- What a step does is a case of the rules. Assumes nothing.
-use Rattle.std.proofs.Common.{◌≡◌, ℕ, Bool, true, false, cond, List, get_or, set, ℤ, pos, IfOk, Some, None, Ok, Err, Option, Result, sym, refl, ap, ◌∙◌, subst, arith}
+use Rattle.std.proofs.Common.{◌≡◌, ℕ, Bool, true, false, cond, get_or, set, ℤ, pos, IfOk, Some, None, Ok, Err, Option, Result, sym, refl, ap, ◌∙◌, subst, arith}
 use Rattle.scan.proofs.Scans.{err-is-not-ok, ok_same}
 use Rattle.number.specs.Codes.{nth}
 use Rattle.machine.specs.Inputs.{allows}

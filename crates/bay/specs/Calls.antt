@@ -1,5 +1,5 @@
 -- The rules of the six calls, one case for each: before, call, answer, after. Assumes nothing.
-use Rattle.std.specs.Prelude.{◌≡◌, ℕ, ◌<◌, ◌≤◌, Bool, true, false, List, set, ℤ, pos, Some, None, Ok, Err, Option, Result, slice_index_or, slice_set}
+use Rattle.std.specs.Prelude.{◌≡◌, ℕ, ◌<◌, ◌≤◌, Bool, true, false, List, ℤ, pos, Some, Ok, Err, Result, slice_index_or, slice_set}
 use Rattle.number.specs.Codes.{nth}
 use Rattle.number.specs.declared.Trap.{Trap}
 use Rattle.machine.specs.Imp.{look_up}

@@ -1,5 +1,5 @@
 -- The bay as a transition system: what it holds, and what each call answers and leaves. Assumes nothing.
-use Rattle.std.specs.Prelude.{ℕ, Bool, true, false, cond, List, [], map, set, ℤ, pos, Some, None, Ok, Err, Option, Result, nat_lt, slice_index_or, slice_set}
+use Rattle.std.specs.Prelude.{ℕ, Bool, true, false, cond, List, [], map, ℤ, pos, Some, None, Ok, Err, Option, Result, nat_lt, slice_index_or, slice_set}
 use Rattle.number.specs.Codes.{nth}
 use Rattle.machine.specs.Imp.{look_up}
 use Rattle.machine.specs.Inputs.{allows}
@@ -16,7 +16,6 @@ use Rattle.sheet.specs.Parts.{Parts}
 use Rattle.sheet.specs.Sheets.{sheet_of}
 use Rattle.sheet.specs.declared.refusals.Refusal.{Refusal}
 use Rattle.sheet.specs.declared.refusals.Refusal.TheVariants.{NoSetting, SettingOutside, ReadingOutside, NoVariable, NothingHeld, Running as RunsAlready, NotRunning}
-use Rattle.rules.specs.Checks.{Routine}
 use Rattle.rules.specs.Faults.{Fault, fixed}
 use Rattle.rules.specs.Tables.{routine_of}
 use Rattle.bay.specs.declared.Mode.{Mode}

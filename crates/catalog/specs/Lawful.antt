@@ -1,5 +1,5 @@
 -- Each domain that ships keeps the laws. Assumes nothing.
-use Rattle.std.specs.Prelude.{◌≡◌, ℕ, zero, suc, true, false, ◌≢◌, List, [], ◌∷◌, length, None, refl}
+use Rattle.std.specs.Prelude.{◌≡◌, ℕ, zero, suc, ◌≢◌, List, [], ◌∷◌, length, None, refl}
 use Rattle.std.proofs.Common.{arith, lit<, lit≤}
 use Rattle.domain.specs.Carrier.{Lawful}
 use Rattle.domain.specs.Laws.{Order, Reading, Working, Narrowing}

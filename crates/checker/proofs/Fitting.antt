@@ -1,11 +1,11 @@
 -- A table that fits the width of its domain. Assumes nothing.
-use Rattle.std.proofs.Common.{◌≡◌, ℕ, ◌+◌, ◌*◌, true, false, not, eqb, length, Ok, Err, Result, sym, refl, ap, ◌∙◌, subst}
+use Rattle.std.proofs.Common.{◌≡◌, ℕ, ◌+◌, ◌*◌, not, eqb, length, Ok, Result, ap, ◌∙◌, subst}
 use Rattle.std.proofs.lemmas.Bool.{eq-eqb, ne_eqb}
 use Rattle.scan.specs.Scan.{unless}
 use Rattle.scan.proofs.Scans.{passes, then-on}
 use Rattle.sheet.specs.Parts.{Parts}
 use Rattle.sheet.specs.declared.refusals.Refusal.{Refusal}
-use Rattle.sheet.specs.declared.refusals.Refusal.TheVariants.{NoWidth, TableSize}
+use Rattle.sheet.specs.declared.refusals.Refusal.TheVariants.{NoWidth}
 use Rattle.domain.specs.Model.{Ops}
 use Rattle.rules.specs.Faults.{fixed, Meets}
 use Rattle.rules.specs.Tables.{table_fits, table_right}

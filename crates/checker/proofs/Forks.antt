@@ -1,5 +1,5 @@
 -- The ways of a fork, by what narrowing changes. Assumes nothing.
-use Rattle.std.proofs.Common.{◌≡◌, ℕ, Bool, true, false, cond, eqb, Some, None, Option, Result, sym, refl, ap, ◌∙◌, subst}
+use Rattle.std.proofs.Common.{◌≡◌, ℕ, Bool, true, false, cond, eqb, Some, None, Option, Result, refl, ap, ◌∙◌, subst}
 use Rattle.number.specs.Exact.{mirrored}
 use Rattle.number.specs.declared.Relation.{Relation}
 use Rattle.sheet.specs.declared.refusals.Refusal.{Refusal}

@@ -1,13 +1,11 @@
 -- A way that leads to an entry which does not cover a variable is refused. Assumes nothing.
-use Rattle.std.proofs.Common.{◌≡◌, ℕ, ◌<◌, Bool, true, false, not, ◌&&◌, ltb, Ok, Err, sym, refl, ap, ◌∙◌, subst}
+use Rattle.std.proofs.Common.{◌≡◌, ℕ, ◌<◌, true, false, Ok, Err, refl}
 use Rattle.std.proofs.lemmas.Bool.{and_from, lt-ltb, not_from_false}
-use Rattle.scan.specs.Scan.{and_then, unless}
-use Rattle.sheet.specs.declared.refusals.Refusal.{Refusal}
 use Rattle.sheet.specs.declared.refusals.Refusal.TheVariants.{NotCovered}
 use Rattle.domain.specs.Model.{Ops}
 use Rattle.rules.specs.Checks.{Routine, all_below, covered, lands}
 use Rattle.rules.specs.Claims.{Claims}
-use Rattle.rules.specs.Faults.{Fault, fixed, uncovered, Meets}
+use Rattle.rules.specs.Faults.{Meets}
 use Rattle.rules.specs.Ways.{go}
 use Rattle.checker.proofs.Meeting.{below_fails}
 

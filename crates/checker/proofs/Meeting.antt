@@ -2,7 +2,7 @@
 use Rattle.std.proofs.Common.{◌≡◌, ℕ, zero, suc, ◌+◌, ◌<◌, ◌≤◌, Bool, true, false, Ok, Err, Result, sym, refl, ap, ◌∙◌, subst, ⊎_elim, not-suc-le-zero, add-one, arith}
 use Rattle.std.proofs.lemmas.Bool.{and_from, and_left, and_right, cases_lt}
 use Rattle.rules.specs.Checks.{all_below}
-use Rattle.scan.specs.Scan.{and_then, Check, unless, up_to}
+use Rattle.scan.specs.Scan.{and_then, Check, up_to}
 use Rattle.scan.proofs.Scans.{up-stops}
 use Rattle.sheet.specs.declared.refusals.Refusal.{Refusal}
 use Rattle.rules.specs.Faults.{Fault, Allows, Meets}

@@ -6,7 +6,6 @@ use Rattle.sheet.specs.Inputs.{input_at}
 use Rattle.sheet.specs.Parts.{Parts}
 use Rattle.sheet.specs.Rows.{row_at}
 use Rattle.sheet.specs.Sheets.{Fits}
-use Rattle.rules.specs.Checks.{Routine}
 use Rattle.rules.specs.Tables.{routine_of}
 use Rattle.rules.specs.Ways.{input_on}
 

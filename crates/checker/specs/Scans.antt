@@ -3,7 +3,6 @@ use Rattle.std.specs.Prelude.{â„•, cond, pos, is_some, Some, None, Ok, Option, â
 use Rattle.scan.specs.Scan.{and_then, Check, unless, up_to}
 use Rattle.number.specs.Exact.{mirrored}
 use Rattle.number.specs.declared.Relation.{Relation}
-use Rattle.machine.specs.Runs.{row_on}
 use Rattle.machine.specs.declared.Row.{Row}
 use Rattle.sheet.specs.Parts.{Parts}
 use Rattle.sheet.specs.declared.refusals.Refusal.TheVariants.{CellUnreadable, StartUncovered}
@@ -14,7 +13,7 @@ use Rattle.rules.specs.Tables.{Table, cell_at, claims_of, entries_right, routine
 use Rattle.rules.specs.Ways.{go, changed, fork_way, way, ways}
 use Rattle.checker.specs.Grids.{routine_in, claims_in}
 use Rattle.checker.specs.declared.changes.Change.{Change}
-use Rattle.checker.specs.declared.changes.Change.TheVariants.{Nothing, One, Two}
+use Rattle.checker.specs.declared.changes.Change.TheVariants.{Nothing, Two}
 use Rattle.checker.specs.declared.grids.Grid.{Grid}
 
 -- a cell holds a value

@@ -1,5 +1,5 @@
 -- The calls of the morning, each a case of the rules. Assumes nothing.
-use Rattle.std.proofs.Common.{◌≡◌, ℕ, zero, suc, ◌<◌, Bool, true, ◌&&◌, ltb, List, [], ◌∷◌, get_or, ℤ, pos, Ok, Err, Result, refl, arith, lit<}
+use Rattle.std.proofs.Common.{◌≡◌, ℕ, zero, suc, Bool, true, ◌&&◌, ltb, List, [], ◌∷◌, pos, Ok, Err, Result, refl, lit<}
 use lib.Signed.{le_z_yes}
 use Rattle.std.proofs.lemmas.Bool.{and_parts, ltb-true}
 use Rattle.number.specs.Exact.{Int32}

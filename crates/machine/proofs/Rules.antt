@@ -4,7 +4,7 @@ use Rattle.std.proofs.lemmas.Int.{ints}
 use Rattle.std.proofs.lemmas.Bool.{cases_Bool, both_ways}
 use Rattle.scan.specs.Scan.{and_then}
 use Rattle.scan.proofs.Scans.{err-is-not-ok, ok_same, stage}
-use Rattle.number.specs.Exact.{Int32, eq_z, exact, holds, truth, worked, zero_trap}
+use Rattle.number.specs.Exact.{Int32, exact, holds, truth, worked, zero_trap}
 use Rattle.number.specs.Means.{DividesByZero as ByZero, Answers}
 use Rattle.number.specs.declared.Op.{Op}
 use Rattle.number.specs.declared.Op.TheVariants.{IsLess, IsAtMost, IsEqual, IsUnequal}

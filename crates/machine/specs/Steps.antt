@@ -1,5 +1,5 @@
 -- What one step of the machine does, as it is worked out. Assumes nothing.
-use Rattle.std.specs.Prelude.{◌≡◌, ℕ, Bool, true, false, cond, ◌↔◌, List, set, ℤ, pos, Ok, Err, Result, ◌≢◌, slice_set}
+use Rattle.std.specs.Prelude.{◌≡◌, ℕ, true, cond, ◌↔◌, List, ℤ, Ok, Err, Result, ◌≢◌, slice_set}
 use Rattle.scan.specs.Scan.{and_then}
 use Rattle.number.specs.Exact.{Int32, worked, holds}
 use Rattle.number.specs.declared.Trap.{Trap}

@@ -1,9 +1,8 @@
 -- The cells that are written read as their values. Assumes nothing but the law of reading of the domains below.
-use Rattle.std.proofs.Common.{◌≡◌, ℕ, ◌+◌, ◌*◌, ◌/◌, ◌%◌, ◌≤◌, Bool, true, false, cond, not, ◌||◌, eqb, ◌≢◌, List, ◌∷◌, ◌++◌, length, take, drop, is_ok, Some, None, Ok, Result, sym, refl, ap, ◌∙◌, ap₂, ⊎_elim, arith, length-append}
+use Rattle.std.proofs.Common.{◌≡◌, ℕ, ◌+◌, ◌*◌, ◌/◌, ◌%◌, ◌≤◌, true, false, cond, eqb, ◌≢◌, List, ◌∷◌, ◌++◌, length, is_ok, Some, Ok, Result, sym, refl, ap, ◌∙◌, ap₂, ⊎_elim, arith, length-append}
 use Rattle.std.proofs.lemmas.List.{take_at, drop_at}
 use Rattle.std.proofs.lemmas.Int.{ints}
 use Rattle.std.proofs.lemmas.Bool.{cases_eq, cond-false, or_from, ne_eqb, eq-eqb, not_from_true}
-use Rattle.std.proofs.lemmas.Bool.Decides.{nat_tests}
 use Rattle.sheet.proofs.Accepted.{integer-read}
 use Rattle.domain.specs.Model.{Ops}
 use Rattle.domain.specs.Laws.{Reading}

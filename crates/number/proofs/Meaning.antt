@@ -1,8 +1,8 @@
 -- The rules of the operations and relations hold of their definitions. Assumes nothing.
-use Rattle.std.proofs.Common.{◌≡◌, ℕ, zero, suc, ◌/◌, Bool, true, false, not, ◌&&◌, ◌⊎◌, ◌↔◌, ℤ, pos, negsuc, neg_ℤ, nat_abs, ◌≤ℤ◌, ◌<ℤ◌, Some, None, Ok, Err, Decides, Option, Result, sym, refl, ap, ◌∙◌, subst, inl, inr, ⊎_elim, arith}
-use lib.Signed.{lt_z, le_z, quot_z}
+use Rattle.std.proofs.Common.{◌≡◌, ℕ, zero, suc, ◌/◌, Bool, true, false, not, ◌&&◌, ℤ, pos, negsuc, neg_ℤ, nat_abs, ◌≤ℤ◌, ◌<ℤ◌, Some, None, Ok, Err, Decides, Option, Result, sym, refl, ap, subst, inl, inr, ⊎_elim, arith}
+use lib.Signed.{quot_z}
 use Rattle.std.proofs.lemmas.Int.{ints}
-use Rattle.std.proofs.lemmas.Bool.{and_parts, and_from, cases_Bool, both_ways, not-true, not_from_false, and_right}
+use Rattle.std.proofs.lemmas.Bool.{cases_Bool, both_ways}
 use Rattle.std.proofs.lemmas.Bool.Decides.{Decides-not, same_from_decides}
 use Rattle.number.specs.declared.Op.{Op}
 use Rattle.number.specs.declared.Op.TheVariants.{Add, Sub, Mul, Div, IsLess, IsAtMost, IsEqual, IsUnequal}
@@ -11,7 +11,7 @@ use Rattle.number.specs.declared.Relation.TheVariants.{Less, AtMost, Equal, Uneq
 use Rattle.number.specs.declared.Trap.{Trap}
 use Rattle.number.specs.declared.Trap.TheVariants.{Zero, Range}
 use Rattle.number.specs.Codes.{op_coded, relation_coded, op_code, relation_code}
-use Rattle.number.specs.Exact.{Int32, fits32, eq_z, holds, mirrored, opposite, exact, divides, zero_trap, range_trap, or_else, worked}
+use Rattle.number.specs.Exact.{Int32, fits32, eq_z, holds, mirrored, opposite, exact, zero_trap, or_else, worked}
 use Rattle.number.specs.Means.{Related, Mirrors, Opposes, Decodes, DividesByZero, Answers, TowardZero}
 use Rattle.number.proofs.Order.{decides-le, decides-lt, decides_eq, decides-fits, le_of_lt, lt_not_le, fits-from-test, test-from-fits, eq-from-test, test-from-eq}
 

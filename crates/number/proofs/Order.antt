@@ -1,9 +1,8 @@
 -- The order of the integers, and its tests. Assumes nothing.
-use Rattle.std.proofs.Common.{◌≡◌, ℕ, Bool, true, false, not, ◌&&◌, T, ◌⊎◌, ℤ, pos, negsuc, ◌+ℤ◌, ◌-ℤ◌, neg_ℤ, ◌≤ℤ◌, ◌<ℤ◌, Decides, sym, refl, ap, ◌∙◌, subst, inl, inr, ⊎_elim, arith, w32, SFits}
+use Rattle.std.proofs.Common.{◌≡◌, Bool, true, false, T, ◌⊎◌, ℤ, ◌≤ℤ◌, ◌<ℤ◌, Decides, sym, refl, subst, inl, inr, ⊎_elim, arith, w32, SFits}
 use lib.Signed.{lt_z, le_z}
 use Rattle.std.proofs.lemmas.Int.{ints}
-use Rattle.std.proofs.lemmas.Bool.{and_parts, and_from, cases_Bool, both_ways}
-use Rattle.std.proofs.lemmas.Bool.Decides.{Decides-and, Decides-not, Decides-like}
+use Rattle.std.proofs.lemmas.Bool.{and_parts, and_from, cases_Bool}
 use Rattle.number.specs.Exact.{Int32, fits32, eq_z, least, greatest}
 
 -- ---- the order

@@ -1,5 +1,5 @@
 -- What the operations and the relations mean, over the unbounded integers. Assumes nothing.
-use Rattle.std.specs.Prelude.{ℕ, Bool, true, false, not, ◌&&◌, ℤ, pos, negsuc, ◌+ℤ◌, ◌-ℤ◌, ◌*ℤ◌, ◌≤ℤ◌, Ok, Err, Result, int_div, int_le, int_lt}
+use Rattle.std.specs.Prelude.{Bool, true, false, not, ◌&&◌, ℤ, pos, negsuc, ◌+ℤ◌, ◌-ℤ◌, ◌*ℤ◌, ◌≤ℤ◌, Ok, Err, Result, int_div, int_le, int_lt}
 use Rattle.number.specs.declared.Op.{Op}
 use Rattle.number.specs.declared.Op.TheVariants.{Add, Sub, Mul, Div, IsLess, IsAtMost, IsEqual, IsUnequal}
 use Rattle.number.specs.declared.Relation.{Relation}

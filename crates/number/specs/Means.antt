@@ -2,7 +2,7 @@
 use Rattle.std.specs.Prelude.{◌≡◌, ℕ, ◌/◌, ◌↔◌, ℤ, pos, negsuc, ◌≤ℤ◌, ◌<ℤ◌, Some, None, Ok, Err, Option, Result, ◌≢◌, unsigned_abs}
 use Rattle.std.specs.Int.Signed.{non_neg}
 use Rattle.number.specs.declared.Op.{Op}
-use Rattle.number.specs.declared.Op.TheVariants.{Add, Sub, Mul, Div, IsLess, IsAtMost, IsEqual, IsUnequal}
+use Rattle.number.specs.declared.Op.TheVariants.{Div}
 use Rattle.number.specs.declared.Relation.{Relation}
 use Rattle.number.specs.declared.Relation.TheVariants.{Less, AtMost, Equal, Unequal, Greater, AtLeast}
 use Rattle.number.specs.declared.Trap.{Trap}

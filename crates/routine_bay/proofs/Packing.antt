@@ -1,7 +1,7 @@
 -- Four numbers that fit their fields are read back from the word. Assumes nothing.
-use Rattle.std.proofs.Common.{◌≡◌, ℕ, ◌+◌, ◌*◌, ◌/◌, ◌%◌, ◌<◌, arith}
+use Rattle.std.proofs.Common.{arith}
 use Rattle.sheet.specs.declared.refusals.Report.{Report}
-use Rattle.routine_bay.specs.Fields.{fields, packed_report, Holds, Small}
+use Rattle.routine_bay.specs.Fields.{packed_report, Holds, Small}
 
 pub holds_of : (r : Report) → Small r → Holds (packed_report r) r
 holds_of r small =

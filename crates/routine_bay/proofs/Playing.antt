@@ -1,5 +1,5 @@
 -- One call more of a list that is played. Assumes nothing.
-use Rattle.std.proofs.Common.{◌≡◌, ℕ, ◌+◌, ◌<◌, ◌≤◌, List, [], ◌∷◌, ◌++◌, length, take, drop, set, Some, sym, refl, ap, ◌∙◌, subst, subst₂, inr, arith}
+use Rattle.std.proofs.Common.{◌≡◌, ℕ, ◌+◌, ◌<◌, ◌≤◌, List, [], length, take, drop, set, Some, sym, ap, ◌∙◌, subst, subst₂, inr, arith}
 use Rattle.std.proofs.lemmas.List.{take_more_set, drop-set-lt, drop-drop, take_all, drop_all}
 use Rattle.bay.specs.Model.{View, nothing}
 use Rattle.routine_bay.specs.Plays.{Performs, Played, none, one_more, Plays}

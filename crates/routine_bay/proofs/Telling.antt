@@ -1,12 +1,12 @@
 -- The word of an answer tells the verdict. Assumes nothing.
-use Rattle.std.proofs.Common.{◌≡◌, ℕ, ◌%◌, List, Ok, Err, Result, sym, refl, ◌∙◌, subst, arith}
+use Rattle.std.proofs.Common.{◌≡◌, ℕ, List, Ok, Err, Result, sym, ◌∙◌, arith}
 use Rattle.sheet.specs.Refusals.{numbers}
 use Rattle.sheet.specs.declared.refusals.Refusal.{Refusal}
 use Rattle.sheet.specs.declared.refusals.Refusal.TheVariants.{SheetSize, HeadByte, PartExtent, PartSize, InputRecord, RowByte, NoWidth, TableSize, EntryFlag, CellUnreadable, StartUncovered, ZeroWarning, RangeWarning, EntryAbsent, NotCovered, NoSetting, SettingOutside, ReadingOutside, NoVariable, NothingHeld, Running, NotRunning}
 use Rattle.rules.specs.Faults.{Meets}
 use Rattle.rules.specs.Safety.{SafeSheet}
 use Rattle.rules.specs.Tables.{verdict_of}
-use Rattle.routine_bay.specs.Fields.{Holds, packed_report, verdict_report}
+use Rattle.routine_bay.specs.Fields.{packed_report, verdict_report}
 use Rattle.routine_bay.specs.Named.{dom, SafeIf, Tells}
 use Rattle.routine_bay.specs.declared.named.DomainName.{DomainName}
 use Rattle.routine_bay.proofs.Bounds.{verdict-small}

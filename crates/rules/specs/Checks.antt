@@ -1,11 +1,10 @@
 -- The check of a routine against what its table claims, over any domain. Assumes nothing.
-use Rattle.std.specs.Prelude.{ℕ, zero, suc, Bool, true, cond, not, ◌&&◌, List, pos, Ok, Err, Result, nat_lt}
+use Rattle.std.specs.Prelude.{ℕ, zero, suc, Bool, true, cond, not, ◌&&◌, List, pos, Ok, nat_lt}
 use Rattle.scan.specs.Scan.{and_then, Check, unless, up_to}
 use Rattle.machine.specs.Runs.{row_on}
 use Rattle.machine.specs.declared.Input.{Input}
 use Rattle.machine.specs.declared.Row.{Row}
 use Rattle.machine.specs.declared.Row.TheVariants.{End, Put, Take, Work, Fork}
-use Rattle.sheet.specs.declared.refusals.Refusal.{Refusal}
 use Rattle.sheet.specs.declared.refusals.Refusal.TheVariants.{StartUncovered, ZeroWarning, RangeWarning, EntryAbsent}
 use Rattle.domain.specs.Model.{Ops}
 use Rattle.rules.specs.Claims.{Claims}

@@ -1,6 +1,5 @@
 -- What the rules answer to a sheet, and which answers of the code meet them. Assumes nothing.
 use Rattle.std.specs.Prelude.{◌≡◌, ℕ, Bool, true, Ok, Err, Result}
-use Rattle.scan.specs.Scan.{Check}
 use Rattle.sheet.specs.declared.refusals.Refusal.{Refusal}
 use Rattle.sheet.specs.declared.refusals.Refusal.TheVariants.{NotCovered}
 

@@ -1,10 +1,8 @@
 -- The table of a sheet in its bytes, and the verdict on a sheet, over any domain. Assumes nothing.
-use Rattle.std.specs.Prelude.{ℕ, ◌+◌, ◌*◌, Bool, cond, not, List, map, length, drop, is_some, Ok, Err, Result, ◌==◌, nat_lt, slice_index}
+use Rattle.std.specs.Prelude.{ℕ, ◌+◌, ◌*◌, cond, not, List, map, length, drop, is_some, Ok, Result, ◌==◌, nat_lt, slice_index}
 use Rattle.std.specs.List.{range_with_len}
 use Rattle.std.specs.Option.{unwrap_or}
 use Rattle.scan.specs.Scan.{and_then, Check, unless, up_to, chunk}
-use Rattle.machine.specs.declared.Input.{Input}
-use Rattle.machine.specs.declared.Row.{Row}
 use Rattle.sheet.specs.Inputs.{input_in}
 use Rattle.sheet.specs.Parts.{Parts}
 use Rattle.sheet.specs.Rows.{row_in}

@@ -1,5 +1,5 @@
 -- The ways out of a place, and what the variables may be on each. Assumes nothing.
-use Rattle.std.specs.Prelude.{ℕ, zero, suc, cond, List, ℤ, pos, Some, None, Option, ◌==◌, slice_index_or}
+use Rattle.std.specs.Prelude.{ℕ, zero, suc, cond, List, pos, Some, None, Option, ◌==◌, slice_index_or}
 use Rattle.number.specs.Exact.{mirrored, opposite}
 use Rattle.number.specs.declared.Relation.{Relation}
 use Rattle.machine.specs.declared.Input.{Input}

@@ -1,10 +1,10 @@
 -- A well-formed sheet is accepted, and with the parts that it has. Assumes nothing.
-use Rattle.std.proofs.Common.{◌≡◌, ℕ, zero, suc, ◌+◌, ◌*◌, ◌/◌, ◌%◌, ◌<◌, ◌≤◌, Bool, true, false, cond, ◌&&◌, T, eqb, ltb, leb, List, [], ◌∷◌, ◌++◌, length, get_or, take, drop, ℤ, pos, negsuc, ◌≤ℤ◌, Ok, Err, Result, unwrap_or, sym, refl, ap, ◌∙◌, subst, ap₂, arith, lit<, w32, SFits, to_z, of_z}
+use Rattle.std.proofs.Common.{◌≡◌, ℕ, ◌+◌, ◌*◌, ◌/◌, ◌%◌, ◌<◌, ◌≤◌, Bool, true, false, cond, ◌&&◌, T, eqb, ltb, leb, List, length, get_or, take, drop, ℤ, pos, negsuc, ◌≤ℤ◌, Ok, Err, Result, unwrap_or, sym, refl, ap, ◌∙◌, ap₂, arith, lit<, w32, SFits, to_z, of_z}
 use native.Mathlib.Nat.{div-div-eq-div-mul}
 use lib.Signed.{le_z}
 use Rattle.std.proofs.lemmas.Int.{to_z-of_z, ints}
 use Rattle.std.proofs.lemmas.Bool.{lt-ltb, le-leb, eq-eqb, and_from}
-use Rattle.scan.specs.Scan.{and_then, Check, unless, up_to, passed, chunk}
+use Rattle.scan.specs.Scan.{and_then, unless, passed}
 use Rattle.scan.proofs.Scans.{up-all, up_next, then-on, passes, passed_ok, err-is-not-ok}
 use Rattle.number.specs.Codes.{op_coded, relation_coded, op_code, relation_code}
 use Rattle.number.specs.Exact.{Int32}
@@ -17,8 +17,8 @@ use Rattle.machine.specs.declared.InputKind.{InputKind}
 use Rattle.machine.specs.declared.InputKind.TheVariants.{Reading, Setting}
 use Rattle.machine.specs.declared.Row.{Row}
 use Rattle.machine.specs.declared.Row.TheVariants.{End, Put, Take, Work, Fork}
-use Rattle.sheet.specs.Bytes.{AllBytes, little, integer_at}
-use Rattle.sheet.specs.Format.{integer_bytes, row_bytes, Names, input_bytes, Proper, Given, Held, Headed, InOrder, WellFormed, Means, kind_code}
+use Rattle.sheet.specs.Bytes.{AllBytes, little}
+use Rattle.sheet.specs.Format.{row_bytes, Names, input_bytes, Proper, Given, Held, Headed, InOrder, WellFormed, Means, kind_code}
 use Rattle.sheet.specs.Inputs.{input_of, input_at, inputs_right}
 use Rattle.sheet.specs.Parts.{Region, Parts, end_of, offset_of, length_of, part_of, head_right, head_byte, size_right, sizes_right, parts_of}
 use Rattle.sheet.specs.Rows.{row_of, row_at, rows_right}

@@ -1,16 +1,14 @@
 -- What acceptance of a sheet means. Assumes nothing.
-use Rattle.std.proofs.Common.{◌≡◌, ℕ, ◌+◌, ◌*◌, ◌<◌, ◌≤◌, List, length, get_or, take, drop, Ok, Err, Result, sym, refl, ap, ◌∙◌, subst, arith, length-drop, length-take}
-use Rattle.scan.specs.Scan.{and_then, passed, chunk}
+use Rattle.std.proofs.Common.{◌≡◌, ℕ, ◌*◌, ◌<◌, List, length, drop, Ok, Result, sym, subst, arith, length-drop, length-take}
+use Rattle.scan.specs.Scan.{passed, chunk}
 use Rattle.scan.proofs.Pieces.{piece-ends}
 use Rattle.scan.proofs.Scans.{stage, ok_same, up-each, then_ok}
-use Rattle.machine.specs.declared.Input.{Input}
-use Rattle.machine.specs.declared.Row.{Row}
 use Rattle.sheet.specs.Bytes.{AllBytes}
-use Rattle.sheet.specs.Format.{Held, WellFormed, input_bytes, row_bytes, Names}
+use Rattle.sheet.specs.Format.{Held, WellFormed}
 use Rattle.sheet.specs.Inputs.{input_at, inputs_right}
 use Rattle.sheet.specs.Parts.{Region, Parts, parts_of}
 use Rattle.sheet.specs.Rows.{row_at, rows_right}
-use Rattle.sheet.specs.Sheets.{Fits, sheet_of}
+use Rattle.sheet.specs.Sheets.{sheet_of}
 use Rattle.sheet.proofs.Layouts.{Laid, laid_of}
 use Rattle.sheet.proofs.Spelled.{bytes-chunk, bytes_take, bytes_drop}
 use Rattle.sheet.proofs.Written.{row_written, input-written}

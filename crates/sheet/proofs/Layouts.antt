@@ -1,7 +1,7 @@
 -- What a layout that was accepted keeps to. Assumes nothing.
-use Rattle.std.proofs.Common.{◌≡◌, ℕ, ◌+◌, ◌-◌, ◌*◌, ◌/◌, ◌%◌, ◌<◌, ◌≤◌, min, Bool, true, false, ◌&&◌, eqb, leb, List, length, get_or, take, drop, Ok, sym, refl, ap, ◌∙◌, subst, arith, length-drop, length-take}
+use Rattle.std.proofs.Common.{◌≡◌, ℕ, ◌+◌, ◌*◌, ◌/◌, ◌%◌, ◌≤◌, true, ◌&&◌, eqb, leb, List, length, get_or, take, drop, Ok, sym, refl, subst, arith, length-drop, length-take}
 use Rattle.std.proofs.lemmas.Bool.{leb-true, eqb-true, and_parts}
-use Rattle.scan.specs.Scan.{and_then, unless}
+use Rattle.scan.specs.Scan.{unless}
 use Rattle.scan.proofs.Scans.{stage, ok_same, up-each, held}
 use Rattle.sheet.specs.Format.{Held, InOrder, Headed, Given}
 use Rattle.sheet.specs.Parts.{Region, Parts, end_of, size_right, head_byte, head_right, part_of, sizes_right, parts_of, offset_of, length_of}

@@ -1,5 +1,5 @@
 -- An accepted row or input is written in its bytes, and names only what exists. Assumes nothing.
-use Rattle.std.proofs.Common.{◌≡◌, ℕ, zero, suc, ◌+◌, ◌*◌, ◌<◌, ◌≤◌, Bool, true, false, cond, ◌&&◌, T, eqb, ltb, List, [], ◌∷◌, ◌++◌, length, get_or, ◌≤ℤ◌, Ok, unwrap_or, sym, refl, ap, ◌∙◌, subst, ap₂, arith, lit<}
+use Rattle.std.proofs.Common.{◌≡◌, ℕ, zero, suc, ◌<◌, Bool, true, false, cond, ◌&&◌, T, eqb, ltb, List, ◌∷◌, ◌++◌, length, get_or, Ok, unwrap_or, sym, refl, ap, ◌∙◌, subst, ap₂, arith, lit<}
 use lib.Signed.{le_z, le_z_yes}
 use Rattle.std.proofs.lemmas.Bool.{ltb-true, and_parts}
 use Rattle.scan.specs.Scan.{up_to, unless}
@@ -14,7 +14,7 @@ use Rattle.machine.specs.declared.Row.TheVariants.{End, Put, Take, Work, Fork}
 use Rattle.sheet.specs.Bytes.{AllBytes, integer_at}
 use Rattle.sheet.specs.Format.{integer_bytes, row_bytes, input_bytes, kind_code, Names, Proper}
 use Rattle.sheet.specs.Inputs.{input_in, input_of}
-use Rattle.sheet.specs.Rows.{by_kind, limits, row_byte, row_in, row_of}
+use Rattle.sheet.specs.Rows.{by_kind, limits, row_byte, row_of}
 use Rattle.sheet.proofs.Spelled.{spelled, integer-written, integer-fits}
 
 -- a code below 8 is that of its operation, and one below 6 that of its relation

@@ -1,8 +1,7 @@
 -- An input of a sheet: 9 bytes, its kind (0 reading, 1 setting), lo and hi. Assumes nothing.
-use Rattle.std.specs.Prelude.{ℕ, Bool, true, false, cond, ◌&&◌, List, Ok, Result, ◌==◌, int_le, nat_lt, slice_index}
+use Rattle.std.specs.Prelude.{ℕ, cond, ◌&&◌, List, Ok, Result, ◌==◌, int_le, nat_lt, slice_index}
 use Rattle.scan.specs.Scan.{and_then, Check, unless, up_to, passed, chunk}
 use Rattle.machine.specs.declared.Input.{Input}
-use Rattle.machine.specs.declared.InputKind.{InputKind}
 use Rattle.machine.specs.declared.InputKind.TheVariants.{Reading, Setting}
 use Rattle.sheet.specs.Bytes.{integer_at}
 use Rattle.sheet.specs.Parts.{Parts}

@@ -1,5 +1,5 @@
 -- The head of a sheet and the layout of its three parts. Assumes nothing.
-use Rattle.std.specs.Prelude.{ℕ, ◌+◌, ◌*◌, ◌/◌, ◌%◌, Bool, ◌&&◌, List, [], ◌∷◌, length, take, drop, Ok, Result, ◌==◌, nat_le, slice_index}
+use Rattle.std.specs.Prelude.{ℕ, ◌+◌, ◌*◌, ◌/◌, ◌%◌, ◌&&◌, List, [], ◌∷◌, length, take, drop, Ok, Result, ◌==◌, nat_le, slice_index}
 use Rattle.scan.specs.Scan.{and_then, Check, unless, up_to}
 use Rattle.sheet.specs.Bytes.{word_at}
 use Rattle.sheet.specs.declared.refusals.Refusal.{Refusal}

@@ -1,6 +1,6 @@
 -- A row of a sheet: 12 bytes. Assumes nothing.
 -- They are the kind, x, a code or an input, a, b, t, u, a zero byte, and n in four bytes.
-use Rattle.std.specs.Prelude.{ℕ, Bool, true, false, cond, List, [], ◌∷◌, Ok, Result, ◌==◌, nat_lt, slice_index}
+use Rattle.std.specs.Prelude.{ℕ, cond, List, [], ◌∷◌, Ok, Result, ◌==◌, nat_lt, slice_index}
 use Rattle.std.specs.Option.{unwrap_or}
 use Rattle.scan.specs.Scan.{and_then, Check, unless, up_to, passed, chunk}
 use Rattle.number.specs.Codes.{op_coded, relation_coded}

@@ -1,5 +1,5 @@
 -- The examples of spans hold. Assumes nothing.
-use Rattle.std.proofs.Common.{◌≡◌, refl}
+use Rattle.std.proofs.Common.{refl}
 use Rattle.span.specs.Ends.{spanned, spanned_by, whole}
 use Rattle.span.specs.Examples.{Examples}
 

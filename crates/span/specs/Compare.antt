@@ -1,15 +1,14 @@
 -- What a comparison of spans gives is the least span of its results. Assumes nothing.
-use Rattle.std.specs.Prelude.{◌≡◌, Bool, true, false, not, ◌&&◌, ◌||◌, ◌⊎◌, ℤ, pos, negsuc, ◌≤ℤ◌, ◌<ℤ◌, Some, None, Decides, Option, ◌≢◌, int_le, int_lt, refl}
-use Rattle.std.proofs.Common.{sym, ap, subst, ◌∙◌, inl, inr, ⊎_elim, arith}
+use Rattle.std.specs.Prelude.{◌≡◌, Bool, true, false, ℤ, pos, ◌≤ℤ◌, ◌<ℤ◌, Some, None, Decides, Option, ◌≢◌, int_le, int_lt, refl}
+use Rattle.std.proofs.Common.{sym, ap, subst, ◌∙◌, ⊎_elim, arith}
 use Rattle.std.specs.Int.{int_max}
 use Rattle.std.proofs.lemmas.Int.{ints, clamps}
 use Rattle.std.proofs.lemmas.Bool.{both_ways, and_parts, and_cases, or_cases, or_parts, not_from_true, not-false, not-true, cases_Bool}
-use Rattle.std.proofs.lemmas.Bool.Decides.{not_from_Decides}
 use Rattle.number.specs.declared.Relation.{Relation}
 use Rattle.number.specs.declared.Relation.TheVariants.{Less, AtMost, Equal, Unequal, Greater, AtLeast}
 use Rattle.number.specs.Exact.{least, greatest, holds, opposite, truth, eq_z}
 use Rattle.number.specs.Means.{Related}
-use Rattle.number.proofs.Order.{le_refl, le_trans, le-from-test, lt-from-test, lt-from-no-le, le-from-no-lt, le_antisym, no-le-from-lt, no-lt-from-le, test-from-eq, eq-from-test}
+use Rattle.number.proofs.Order.{le_refl, le-from-test, lt-from-test, lt-from-no-le, le-from-no-lt, test-from-eq, eq-from-test}
 use Rattle.number.proofs.Meaning.{decides-holds, holds-opposite, opposes}
 use Rattle.span.specs.declared.Span.{Span}
 use Rattle.span.specs.Ends.{Within, spanned, or_whole}

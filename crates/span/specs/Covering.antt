@@ -1,7 +1,6 @@
 -- What the tests of a span mean. Assumes nothing.
-use Rattle.std.specs.Prelude.{◌≡◌, Bool, true, false, ◌&&◌, ℤ, ◌≤ℤ◌, Decides, int_le, refl}
-use Rattle.std.proofs.Common.{sym, ap, subst, ◌∙◌, arith}
-use Rattle.std.proofs.lemmas.Int.{ints}
+use Rattle.std.specs.Prelude.{◌≡◌, Bool, ℤ, Decides, int_le}
+use Rattle.std.proofs.Common.{sym, subst}
 use Rattle.std.proofs.lemmas.Bool.{and_parts, and_from}
 use Rattle.number.proofs.Order.{le-from-test, test-from-le, le_trans, le_refl}
 use Rattle.span.specs.declared.Span.{Span}

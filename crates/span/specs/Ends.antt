@@ -1,5 +1,5 @@
 -- Spans and their ends, and the one place where spans are made. Assumes nothing.
-use Rattle.std.specs.Prelude.{◌≡◌, ℕ, ◌+◌, ◌*◌, Bool, true, false, cond, ◌&&◌, List, length, ℤ, pos, negsuc, ◌≤ℤ◌, Some, None, Option, ◌==◌, int_le, slice_index, refl}
+use Rattle.std.specs.Prelude.{◌≡◌, ℕ, ◌+◌, ◌*◌, Bool, true, false, cond, ◌&&◌, List, length, ℤ, ◌≤ℤ◌, Some, None, Option, ◌==◌, int_le, slice_index, refl}
 use Rattle.std.specs.Int.{w32}
 use Rattle.std.proofs.Common.{to_z}
 use Rattle.std.proofs.lemmas.Bool.{and_parts}

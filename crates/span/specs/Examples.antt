@@ -1,5 +1,5 @@
 -- A few operations on spans, worked out. Assumes nothing.
-use Rattle.std.specs.Prelude.{◌≡◌, Bool, true, false, pos, negsuc, Some, None, Option}
+use Rattle.std.specs.Prelude.{◌≡◌, true, false, pos, negsuc, Some}
 use Rattle.number.specs.declared.Op.TheVariants.{Mul, Div}
 use Rattle.number.specs.declared.Relation.TheVariants.{Unequal}
 use Rattle.span.specs.Ends.{to, whole}

@@ -1,13 +1,12 @@
 -- A span is its two ends, and what making one gives. Assumes nothing.
-use Rattle.std.specs.Prelude.{◌≡◌, Bool, true, false, ◌&&◌, ◌⊎◌, ℤ, pos, negsuc, ◌≤ℤ◌, ◌<ℤ◌, Some, None, Option, int_le, refl}
-use Rattle.std.proofs.Common.{sym, ap, subst, ◌∙◌, inl, inr, ⊎_elim, arith}
+use Rattle.std.specs.Prelude.{◌≡◌, Bool, true, false, ◌&&◌, ℤ, ◌≤ℤ◌, ◌<ℤ◌, Some, None, Option, int_le, refl}
+use Rattle.std.proofs.Common.{sym, ap, subst, ◌∙◌}
 use Rattle.std.proofs.Math.Dec.{T_prop}
-use Rattle.std.proofs.lemmas.Int.{ints}
-use Rattle.std.proofs.lemmas.Bool.{and_parts, and_from, both_ways, cases_Bool, and_left, and_right}
-use Rattle.number.specs.Exact.{least, greatest, Int32}
+use Rattle.std.proofs.lemmas.Bool.{and_parts, and_from, both_ways, and_left, and_right}
+use Rattle.number.specs.Exact.{least, greatest}
 use Rattle.number.proofs.Order.{test-from-le, le-from-test, no-le-from-lt}
 use Rattle.span.specs.declared.Span.{Span}
-use Rattle.span.specs.Ends.{Within, are_ends, spanned_by, spanned, whole, or_whole}
+use Rattle.span.specs.Ends.{are_ends, spanned_by, spanned}
 
 le_same : {a b : ℤ} (p q : a ≤ℤ b) → p ≡ q
 le_same {a} {b} p q = λ i. record { le = T_prop (int_le a b) p.le q.le i }

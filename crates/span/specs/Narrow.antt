@@ -1,20 +1,18 @@
 -- What narrowing a span leaves is the least span of the integers that stand in the relation. Assumes nothing.
-use Rattle.std.specs.Prelude.{◌≡◌, Bool, true, false, ◌&&◌, ◌⊎◌, ℤ, pos, negsuc, ◌+ℤ◌, ◌-ℤ◌, ◌≤ℤ◌, ◌<ℤ◌, Some, None, Option, ◌≢◌, refl}
-use Rattle.std.proofs.Common.{sym, ap, subst, ◌∙◌, inl, inr, ⊎_elim, arith}
-use Rattle.std.specs.Int.Signed.{le_z, lt_z}
+use Rattle.std.specs.Prelude.{◌≡◌, Bool, true, false, ℤ, pos, ◌+ℤ◌, ◌-ℤ◌, ◌≤ℤ◌, Option, ◌≢◌, refl}
+use Rattle.std.proofs.Common.{sym, subst, ⊎_elim, arith}
 use Rattle.std.specs.Int.{int_min, int_max}
 use Rattle.std.proofs.lemmas.Int.{ints, clamps}
-use Rattle.std.proofs.lemmas.Bool.{both_ways, and_parts, and_cases, and_from}
+use Rattle.std.proofs.lemmas.Bool.{both_ways, and_parts, and_cases}
 use Rattle.number.specs.declared.Relation.{Relation}
 use Rattle.number.specs.declared.Relation.TheVariants.{Less, AtMost, Equal, Unequal, Greater, AtLeast}
 use Rattle.number.specs.Exact.{least, greatest, eq_z, truth}
-use Rattle.number.specs.Means.{Related}
 use Rattle.number.proofs.Order.{le_refl, le_trans, eq-from-test, test-from-eq}
 use Rattle.span.specs.declared.Span.{Span}
 use Rattle.span.specs.Ends.{Within, are_ends, spanned}
 use Rattle.span.specs.Works.{only, narrowed}
 use Rattle.span.specs.Means.{LeastSpan, LeastOf, Left}
-use Rattle.span.specs.Made.{Made, one, none, spanned-made, are-ends, ends-parts, own-ends}
+use Rattle.span.specs.Made.{Made, one, none, spanned-made, are-ends}
 use Rattle.span.specs.Covering.{within-lo, within-hi}
 
 -- a span that holds a set, and whose ends belong to it, is the least

@@ -1,24 +1,23 @@
 -- What working an operation on spans answers: exact warnings, and the least span of the results. Assumes nothing.
-use Rattle.std.specs.Prelude.{◌≡◌, ℕ, zero, suc, ◌/◌, ◌<◌, ◌≤◌, Bool, true, false, cond, not, ◌&&◌, ◌||◌, ◌⊎◌, ℤ, pos, negsuc, ◌+ℤ◌, ◌-ℤ◌, ◌*ℤ◌, ◌≤ℤ◌, ◌<ℤ◌, Some, None, Decides, Option, ◌≢◌, int_div, int_lt, refl}
-use Rattle.std.proofs.Common.{sym, ap, subst, ◌∙◌, inl, inr, ⊎_elim, div-le_self, div-one, arith}
+use Rattle.std.specs.Prelude.{◌≡◌, zero, suc, ◌/◌, ◌<◌, ◌≤◌, Bool, true, false, cond, not, ◌&&◌, ◌⊎◌, ℤ, pos, negsuc, ◌≤ℤ◌, ◌<ℤ◌, Decides, Option, ◌≢◌, int_div, int_lt, refl}
+use Rattle.std.proofs.Common.{sym, subst, ◌∙◌, inl, inr, ⊎_elim, div-le_self, div-one, arith}
 use Rattle.std.proofs.Math.Nat.{div-lt_self}
-use Rattle.std.specs.Int.Signed.{le_z}
 use Rattle.std.specs.Int.{int_min, int_max}
 use Rattle.std.proofs.lemmas.Int.{ints, clamps}
-use Rattle.std.proofs.lemmas.Bool.{both_ways, and_parts, and_from, and_cases, or_parts, not-true, not_from_false, not_from_true, cases_Bool, cases_lt, cond-true}
+use Rattle.std.proofs.lemmas.Bool.{both_ways, and_parts, and_from, not-true, not_from_false, cases_Bool, cases_lt}
 use Rattle.arith.specs.Corners.{Cornered}
 use Rattle.arith.proofs.Bounds.{sum-corners, difference-corners, product-corners, quotient-corners}
 use Rattle.number.specs.declared.Op.{Op}
 use Rattle.number.specs.declared.Op.TheVariants.{Add, Sub, Mul, Div, IsLess, IsAtMost, IsEqual, IsUnequal}
 use Rattle.number.specs.declared.Relation.{Relation}
-use Rattle.number.specs.declared.Relation.TheVariants.{Less, AtMost, Equal, Unequal, Greater, AtLeast}
+use Rattle.number.specs.declared.Relation.TheVariants.{Less, AtMost, Equal, Unequal}
 use Rattle.number.specs.Exact.{least, greatest, Int32, fits32, eq_z, exact, zero_trap, range_trap, truth, holds}
-use Rattle.number.proofs.Order.{le_refl, le_trans, le-or-lt, lt_not_le, fits-from-test, test-from-fits, eq-from-test, test-from-eq}
+use Rattle.number.proofs.Order.{le_trans, le-or-lt, lt_not_le, fits-from-test, test-from-fits, eq-from-test, test-from-eq}
 use Rattle.span.specs.declared.Span.{Span}
-use Rattle.span.specs.Ends.{Within, are_ends, spanned, has, whole, or_whole}
+use Rattle.span.specs.Ends.{Within, are_ends, has, or_whole}
 use Rattle.span.specs.Works.{lowest, highest, cornered, ranged, warned, judged, works}
 use Rattle.span.specs.Means.{LeastSpan, LeastOf, Some-pair, Results, Worked, Compared}
-use Rattle.span.specs.Made.{Made, one, none, spanned-made, are-ends, ends-parts}
+use Rattle.span.specs.Made.{Made, one, none, spanned-made, are-ends}
 use Rattle.span.specs.Covering.{within-lo, within-hi, decides-has}
 use Rattle.span.specs.Narrow.{least_by, least-by-ends}
 use Rattle.span.specs.Compare.{or-whole-least, judged-least, judged-judged}

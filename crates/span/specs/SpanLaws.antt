@@ -1,15 +1,15 @@
 -- Spans keep the laws of a domain. Assumes nothing.
-use Rattle.std.specs.Prelude.{◌≡◌, ℕ, zero, suc, ◌<◌, ◌≤◌, Bool, true, false, cond, not, ◌&&◌, ◌||◌, ◌≢◌, ◌⊎◌, List, [], ◌∷◌, length, ℤ, pos, negsuc, ◌≤ℤ◌, ◌<ℤ◌, Some, None, Option, ◌==◌, int_le, slice_index, refl}
-use Rattle.std.proofs.Common.{sym, ap, subst, ◌∙◌, inl, inr, ⊎_elim, arith, lit<, lit≤}
-use Rattle.std.proofs.lemmas.Bool.{and_from, and_parts, both_ways, cases_Bool, cond-false, ne_eqb, or_left, not-false, not_from_false, and_cases}
+use Rattle.std.specs.Prelude.{◌≡◌, ℕ, zero, suc, ◌<◌, ◌≤◌, true, false, not, ◌||◌, length, ℤ, ◌≤ℤ◌, Some, None, Option, ◌==◌, int_le, slice_index, refl}
+use Rattle.std.proofs.Common.{sym, ap, subst, ⊎_elim, arith, lit<, lit≤}
+use Rattle.std.proofs.lemmas.Bool.{and_from, both_ways, cases_Bool, cond-false, ne_eqb, not-false, not_from_false, and_cases}
 use Rattle.number.specs.declared.Op.{Op}
 use Rattle.number.specs.declared.Relation.{Relation}
-use Rattle.number.specs.Exact.{Int32, least, greatest, exact, fits32, holds, zero_trap, range_trap}
+use Rattle.number.specs.Exact.{Int32, least, greatest, exact, fits32, zero_trap, range_trap}
 use Rattle.number.proofs.Order.{le_refl, le_trans, test-from-le, fits-from-test}
 use Rattle.number.proofs.Meaning.{decides-holds}
 use Rattle.domain.specs.Laws.{Order, Reading, Working, Narrowing, Keeps, blanks}
 use Rattle.span.specs.declared.Span.{Span}
-use Rattle.span.specs.Ends.{Within, are_ends, spanned, whole, or_whole, covers, read_span, word}
+use Rattle.span.specs.Ends.{Within, spanned, whole, or_whole, covers, read_span, word}
 use Rattle.span.specs.Works.{works, narrowed}
 use Rattle.span.specs.Means.{LeastOf, Left}
 use Rattle.span.specs.Model.{blank_cell, span_ops}

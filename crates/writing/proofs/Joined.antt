@@ -1,5 +1,5 @@
 -- Records one after another. Assumes nothing.
-use Rattle.std.proofs.Common.{◌≡◌, ℕ, zero, suc, ◌+◌, ◌*◌, ◌<◌, ◌≤◌, cond, List, [], ◌∷◌, ◌++◌, length, get_or, take, drop, is_ok, Ok, Result, sym, refl, ap, ◌∙◌, append_assoc, append-nil, not-suc-le-zero, suc-mul, zero-mul, arith, length-append}
+use Rattle.std.proofs.Common.{◌≡◌, ℕ, zero, suc, ◌+◌, ◌*◌, ◌<◌, cond, List, [], ◌∷◌, ◌++◌, length, get_or, take, drop, is_ok, Ok, Result, sym, refl, ap, ◌∙◌, append_assoc, append-nil, not-suc-le-zero, suc-mul, zero-mul, arith, length-append}
 use Rattle.std.proofs.lemmas.List.{take_at, drop_at, drop-drop, take_more}
 use Rattle.scan.specs.Scan.{chunk}
 use Rattle.writing.specs.Laid.{joined, All}

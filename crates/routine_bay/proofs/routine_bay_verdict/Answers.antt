@@ -1,5 +1,5 @@
-use Rattle.std.proofs.Common.{ℕ, Some, Option, sym, subst, subst₂}
-use Rattle.routine_bay.specs.Named.{named, Answered}
+use Rattle.std.proofs.Common.{ℕ, Option, sym, subst₂}
+use Rattle.routine_bay.specs.Named.{Answered}
 use Rattle.routine_bay.specs.declared.named.DomainName.{DomainName}
 use Rattle.routine_bay.proofs.Telling.{tells}
 use Rattle.routine_bay.proofs.routine_bay_verdict.Goals as goal

@@ -1,4 +1,4 @@
-use Rattle.std.proofs.Common.{arith, rules}
+use Rattle.std.proofs.Common.{arith}
 use Rattle.scan.proofs.Pieces.{piece-ends}
 use Rattle.scan.proofs.piece.Goals as goal
 

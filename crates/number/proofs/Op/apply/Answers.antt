@@ -1,4 +1,4 @@
-use Rattle.std.proofs.Common.{◌≡◌, ℤ, Ok, Err, Result, sym, subst, rules}
+use Rattle.std.proofs.Common.{◌≡◌, ℤ, Result, sym, subst, rules}
 use Rattle.number.specs.declared.Op.{Op}
 use Rattle.number.specs.declared.Trap.{Trap}
 use Rattle.number.specs.Exact.{worked}

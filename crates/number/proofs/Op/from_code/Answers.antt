@@ -1,4 +1,4 @@
-use Rattle.std.proofs.Common.{◌≡◌, ℕ, Some, None, Option, sym, subst, rules}
+use Rattle.std.proofs.Common.{◌≡◌, ℕ, Option, sym, subst, rules}
 use Rattle.number.specs.declared.Op.{Op}
 use Rattle.number.specs.Codes.{op_coded, op_code}
 use Rattle.number.specs.Means.{Decodes}

@@ -1,4 +1,4 @@
-use Rattle.std.proofs.Common.{◌≡◌, sym, ◌∙◌, to_z-of_z, w32, w64, SFits, rules}
+use Rattle.std.proofs.Common.{to_z-of_z, w32, w64, SFits, rules}
 use Rattle.span.proofs.narrowing.without.Goals as goal
 
 pub returns : goal.returns

@@ -1,4 +1,4 @@
-use Rattle.std.proofs.Common.{◌≡◌, ℕ, List, [], ◌∷◌, ◌++◌, vec_items, ap, ◌∙◌, ap₂}
+use Rattle.std.proofs.Common.{ℕ, List, [], ◌∷◌, ◌++◌, vec_items, ap, ◌∙◌, ap₂}
 use Rattle.writing.proofs.Joined.{pushed}
 use Rattle.writing.proofs.sheets.head_part.Goals as goal
 

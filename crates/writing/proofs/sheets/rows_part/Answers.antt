@@ -1,4 +1,4 @@
-use Rattle.std.proofs.Common.{◌≡◌, ◌++◌, length, vec_items, sym, refl, ap, ◌∙◌, ap₂, arith}
+use Rattle.std.proofs.Common.{◌≡◌, ◌++◌, length, vec_items, sym, ap, ◌∙◌, ap₂}
 use Rattle.std.proofs.lemmas.List.{take_all}
 use Rattle.sheet.specs.Format.{row_bytes}
 use Rattle.writing.specs.Laid.{joined}

@@ -1,4 +1,4 @@
-use Rattle.std.proofs.Common.{◌≡◌, refl, rules}
+use Rattle.std.proofs.Common.{rules}
 use Rattle.machine.specs.Runs.{start}
 use Rattle.machine.specs.Steps.{shown}
 use Rattle.bay.specs.Tables.{held_inputs, held_rows}

@@ -1,7 +1,6 @@
 use Rattle.std.proofs.Common.{refl, ap}
 use Rattle.bay.specs.Calls
-use Rattle.bay.specs.Model.{start_of, stop_of, set_of, step_of, show_of}
-use Rattle.bay.specs.Views.{view, finished, stepped, told}
+use Rattle.bay.specs.Views.{view, told}
 use Rattle.bay.proofs.Rules.{as-case, show-happens}
 use Rattle.bay.proofs.bays.Bay.show.Goals as goal
 

@@ -1,7 +1,6 @@
 use Rattle.std.proofs.Common.{ap}
 use Rattle.bay.specs.Calls
-use Rattle.bay.specs.Model.{start_of, stop_of, set_of, step_of, show_of}
-use Rattle.bay.specs.Views.{view, finished, stepped, told}
+use Rattle.bay.specs.Views.{view, finished}
 use Rattle.bay.proofs.Rules.{as-case, stop-happens}
 use Rattle.bay.proofs.bays.Bay.stop.Goals as goal
 
