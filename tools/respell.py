@@ -16,13 +16,14 @@ import sys
 
 # Words of the older library inside names of our own lemmas, by today's word.
 WORDS = {"natAbs": "unsigned_abs"}
-# Lemmas that get another name, since a definition comes to have theirs: crate, name, new name.
+# Lemmas that get another name, since a definition comes to have theirs: crate, lemma, and its new name.
 OTHERS = {("widening", "head_bytes"): "bytes_of_head"}
+# The definition's older name: once it is gone, the lemma has its new name already.
+BEFORE = {("widening", "head_bytes"): "headBytes"}
 TOKEN = re.compile(r"(?<![\w'\-])[^\W\d][\w']*(?:-[\w']+)*")
 SIGNED = re.compile(r"^\s*(?:abbrev |unfoldable )?(?:pub )?([^\s:(){}]+)\s*:(?:\s|$)", re.M)
-DEFINED = re.compile(r"^(?:abbrev |unfoldable )(?:pub )?([^\s:(){}]+)\s*:", re.M)
-BLOCK = re.compile(r"^(?:pub )?(?:data|record)\b[^\n]*\n((?:[ \t]+[^\n]*\n|\n)+)", re.M)
-MEMBER = re.compile(r"^  (?:pub )?([^\s:(){}]+)\s*:(?:\s|$)", re.M)
+DEFINED = re.compile(r"^ *(?:abbrev |unfoldable )(?:pub )?([^\s:(){}]+)\s*:", re.M)
+BLOCK = re.compile(r"^( *)(?:pub )?(?:data|record)\b[^\n]*\n((?:\1  [^\n]*\n|\n)+)", re.M)
 
 
 def snake(name):
@@ -52,8 +53,8 @@ def no_dashes(paths):
             with open(path, encoding="utf-8") as f:
                 text = re.sub(r"--[^\n]*", "", f.read())
             names.update(DEFINED.findall(text))
-            for block in BLOCK.findall(text):
-                names.update(MEMBER.findall(block))
+            for indent, block in BLOCK.findall(text):
+                names.update(re.findall(rf"^{indent}  (?:pub )?([^\s:(){{}}]+)\s*:(?:\s|$)", block, re.M))
     return {n for n in names if "-" in n}
 
 
@@ -73,6 +74,9 @@ def renamed(token, dashed, crate):
 def main():
     paths = texts(".")
     dashed = no_dashes(paths)
+    for (crate, name), older in BEFORE.items():
+        if not any(older in open(p, encoding="utf-8").read() for p in paths if p.split(os.sep)[2] == crate):
+            del OTHERS[crate, name]
     changes = collections.defaultdict(set)
     names = collections.defaultdict(lambda: collections.defaultdict(set))
     outcome = {}

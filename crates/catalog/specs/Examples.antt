@@ -14,8 +14,8 @@ use Rattle.stride.specs.Rules as strides
 use Rattle.stride.specs.Strides.{strided, stride_ops}
 use Rattle.layers.specs.declared.pair.Pair.{Pair}
 use Rattle.layers.specs.declared.nonzero.Nonzero.{Nonzero}
-use Rattle.layers.specs.Pairs.{pair-ops}
-use Rattle.layers.specs.Marks.{nonzero-ops}
+use Rattle.layers.specs.Pairs.{pair_ops}
+use Rattle.layers.specs.Marks.{nonzero_ops}
 
 -- -5..5 without a mark, and with one
 abbrev pub around : Bool → Nonzero Span
@@ -27,10 +27,10 @@ odd_around = record { first = to (negsuc 4) (pos 5); second = strided 2 (pos 1) 
 
 -- two spans paired, and four
 abbrev pub spans2 : Ops (Pair Span Span)
-spans2 = pair-ops span_ops span_ops
+spans2 = pair_ops span_ops span_ops
 
 abbrev pub spans4 : Ops (Pair (Pair Span Span) (Pair Span Span))
-spans4 = pair-ops spans2 spans2
+spans4 = pair_ops spans2 spans2
 
 pub record Examples : Type 0 where
   -- 7 ÷ -2 is -3, toward zero; -2^31 ÷ -1 is a range trap; 1 ÷ 0 is a zero trap
@@ -40,9 +40,9 @@ pub record Examples : Type 0 where
   -- (2, 1) + (4, 3) is (2, 0), with the range warning; and others
   pub of_strides : strides.Examples
   -- under nonzero, -5..5 narrowed by ≠ 0..0 becomes marked
-  pub marked_hole : (nonzero-ops span_ops).narrows (around false) Unequal ((nonzero-ops span_ops).value (pos 0) (pos 0)) ≡ Some (around true)
+  pub marked_hole : (nonzero_ops span_ops).narrows (around false) Unequal ((nonzero_ops span_ops).value (pos 0) (pos 0)) ≡ Some (around true)
   -- nothing warns of zero that is divided by -5..5 paired with (2, 1)
-  pub pair_divided : (a : Pair Span Stride) → ((pair-ops span_ops stride_ops).works Div a odd_around).1 ≡ false
+  pub pair_divided : (a : Pair Span Stride) → ((pair_ops span_ops stride_ops).works Div a odd_around).1 ≡ false
   -- eight spans paired have cells of 64 bytes, and nine have none
-  pub eight_spans : (pair-ops spans4 spans4).width ≡ 64
-  pub nine_spans : (pair-ops (pair-ops spans4 spans4) span_ops).width ≡ 0
+  pub eight_spans : (pair_ops spans4 spans4).width ≡ 64
+  pub nine_spans : (pair_ops (pair_ops spans4 spans4) span_ops).width ≡ 0

@@ -10,11 +10,11 @@ use Rattle.catalog.specs.Shipped.{shipped}
 
 nothing-order : Order Nothing.describes Nothing.ops
 nothing-order = record {
-  anything-describes = λ z i. tt;
-  anything-covers = λ a. refl;
-  value-describes = λ lo hi z i j p q. tt;
-  value-empty = λ lo hi i j p. refl;
-  covers-sound = λ a b c z i d. tt;
+  anything_describes = λ z i. tt;
+  anything_covers = λ a. refl;
+  value_describes = λ lo hi z i j p q. tt;
+  value_empty = λ lo hi i j p. refl;
+  covers_sound = λ a b c z i d. tt;
   covers_self = λ a. refl;
 }
 
@@ -27,19 +27,19 @@ other_length (suc n ∷ bs) ne = refl
 nothing-reading : Reading Nothing.ops
 nothing-reading = record {
   width_small = lit≤ tt;
-  blank-byte = λ i. lit< tt;
-  blank-beyond = λ i p. refl;
-  blank-reads = λ p. refl;
+  blank_byte = λ i. lit< tt;
+  blank_beyond = λ i p. refl;
+  blank_reads = λ p. refl;
   other_length = other_length;
-  no-width = λ p cell. absurd (omega (arith, p));
+  no_width = λ p cell. absurd (omega (arith, p));
 }
 
 -- it always warns
 nothing-working : Working Nothing.describes Nothing.ops
 nothing-working = record {
-  zero-warned = λ op a b x y i j d e p. cc p;
-  range-warned = λ op a b x y i j d e p. cc p;
-  result-described = λ op a b x y i j d e p q. tt;
+  zero_warned = λ op a b x y i j d e p. cc p;
+  range_warned = λ op a b x y i j d e p. cc p;
+  result_described = λ op a b x y i j d e p q. tt;
 }
 
 nothing-narrowing : Narrowing Nothing.describes Nothing.ops

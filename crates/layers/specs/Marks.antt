@@ -63,8 +63,8 @@ module _ {A : Type 0} (o : Ops A) where
   abbrev pub marked_result : Op → Nonzero A → Nonzero A → A × Bool × Bool → Nonzero A × Bool × Bool
   marked_result op a b r = (record { marked = marks_result op a.marked b.marked; inner = r.0 }, r.1 && not (divides op && b.marked), r.2)
 
-  abbrev pub nonzero-ops : Ops (Nonzero A)
-  nonzero-ops = record {
+  abbrev pub nonzero_ops : Ops (Nonzero A)
+  nonzero_ops = record {
     width = marked_width o.width;
     blank = marked_blank;
     reads = marked_reads;

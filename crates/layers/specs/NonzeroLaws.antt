@@ -17,7 +17,7 @@ use Rattle.domain.specs.Model.{Ops}
 use Rattle.domain.specs.Laws.{Order, Reading, Working, Narrowing, Keeps, blanks}
 use Rattle.layers.specs.PairLaws.{pick-byte}
 use Rattle.layers.specs.declared.nonzero.Nonzero.{Nonzero}
-use Rattle.layers.specs.Marks.{unless0, marking, marked_width, marks_result, away_from0, marked_blank, marked_reads, only0, marks_kept, nonzero-ops}
+use Rattle.layers.specs.Marks.{unless0, marking, marked_width, marks_result, away_from0, marked_blank, marked_reads, only0, marks_kept, nonzero_ops}
 
 -- integers and 0
 
@@ -65,21 +65,21 @@ result-marked IsEqual a b x y h i m = absurd (false≢true m)
 result-marked IsUnequal a b x y h i m = absurd (false≢true m)
 
 module _ {A : Type 0} {D : A → ℤ → Type 0} {o : Ops A} where
-  pub nonzero-order : Order D o → Order (unless0 D) (nonzero-ops o)
+  pub nonzero-order : Order D o → Order (unless0 D) (nonzero_ops o)
   nonzero-order l = record {
-    anything-describes = λ z h. (l.anything-describes z h, λ e. absurd (false≢true e));
-    anything-covers = λ a. and_from _ _ (l.anything-covers a.inner) refl;
-    value-describes = λ lo hi z h i j k. (l.value-describes lo hi z h i j k, away lo hi z j k);
-    value-empty = λ lo hi h i j. λ t. record { marked = none-away lo hi j t; inner = l.value-empty lo hi h i j t };
-    covers-sound = λ a b e z h d. let s = and_parts _ _ e in (l.covers-sound a.inner b.inner s.0 z h d.0, λ m. d.1 (mark-covered _ _ s.1 m));
+    anything_describes = λ z h. (l.anything_describes z h, λ e. absurd (false≢true e));
+    anything_covers = λ a. and_from _ _ (l.anything_covers a.inner) refl;
+    value_describes = λ lo hi z h i j k. (l.value_describes lo hi z h i j k, away lo hi z j k);
+    value_empty = λ lo hi h i j. λ t. record { marked = none-away lo hi j t; inner = l.value_empty lo hi h i j t };
+    covers_sound = λ a b e z h d. let s = and_parts _ _ e in (l.covers_sound a.inner b.inner s.0 z h d.0, λ m. d.1 (mark-covered _ _ s.1 m));
     covers_self = λ a. and_from _ _ (l.covers_self a.inner) (not-or_self a.marked);
   }
 
-  pub nonzero-working : Working D o → Working (unless0 D) (nonzero-ops o)
+  pub nonzero-working : Working D o → Working (unless0 D) (nonzero_ops o)
   nonzero-working l = record {
-    zero-warned = λ op a b x y h i d e w. ⊎_elim (l.zero-warned op a.inner b.inner x y h i d.0 e.0) (λ v. and_right _ _ (ne-eq_z y (e.1 (and_parts _ _ (not-false _ v)).1))) (and_cases _ _ w);
-    range-warned = λ op a b x y h i d e w. l.range-warned op a.inner b.inner x y h i d.0 e.0 w;
-    result-described = λ op a b x y h i d e z r. (l.result-described op a.inner b.inner x y h i d.0 e.0 z r, result-marked op a.marked b.marked x y d.1 e.1);
+    zero_warned = λ op a b x y h i d e w. ⊎_elim (l.zero_warned op a.inner b.inner x y h i d.0 e.0) (λ v. and_right _ _ (ne-eq_z y (e.1 (and_parts _ _ (not-false _ v)).1))) (and_cases _ _ w);
+    range_warned = λ op a b x y h i d e w. l.range_warned op a.inner b.inner x y h i d.0 e.0 w;
+    result_described = λ op a b x y h i d e z r. (l.result_described op a.inner b.inner x y h i d.0 e.0 z r, result-marked op a.marked b.marked x y d.1 e.1);
   }
 
 -- narrowing
@@ -102,7 +102,7 @@ module _ {A : Type 0} {D : A → ℤ → Type 0} {o : Ops A} (l : Order D o) (m 
   -- what has nothing left but for 0 describes no other integer
   only-0 : (b : A) (y : ℤ) → Int32 y → D b y → only0 o b ≡ true → not (eq_z y (pos 0)) ≢ true
   only-0 b y i e none other =
-      both_ways _ (not-true _ none) (kept-some D y _ (m.kept b Unequal (o.value (pos 0) (pos 0)) y (pos 0) i int32-0 e (l.value-describes (pos 0) (pos 0) (pos 0) int32-0 int32-0 (≤ℤ_refl (pos 0)) (≤ℤ_refl (pos 0))) other))
+      both_ways _ (not-true _ none) (kept-some D y _ (m.kept b Unequal (o.value (pos 0) (pos 0)) y (pos 0) i int32-0 e (l.value_describes (pos 0) (pos 0) (pos 0) int32-0 int32-0 (≤ℤ_refl (pos 0)) (≤ℤ_refl (pos 0))) other))
 
   kept-marked : (rel : Relation) (b : Nonzero A) (x y : ℤ) → Int32 y → unless0 D b y → holds rel x y ≡ true → marks_kept o rel b ≡ true → x ≢ pos 0
   kept-marked Less b x y i e r k = absurd (false≢true k)
@@ -112,7 +112,7 @@ module _ {A : Type 0} {D : A → ℤ → Type 0} {o : Ops A} (l : Order D o) (m 
   kept-marked Greater b x y i e r k = absurd (false≢true k)
   kept-marked AtLeast b x y i e r k = absurd (false≢true k)
 
-  pub nonzero-narrowing : Narrowing (unless0 D) (nonzero-ops o)
+  pub nonzero-narrowing : Narrowing (unless0 D) (nonzero_ops o)
   nonzero-narrowing = record
       { kept = λ a rel b x y h i d e r. marking-kept D x _ _ (m.kept a.inner rel b.inner x y h i d.0 e.0 r) (λ k. ⊎_elim d.1 (kept-marked rel b x y i e r) (or_cases _ _ k)) }
 
@@ -140,10 +140,10 @@ module _ {A : Type 0} {o : Ops A} (l : Reading o) where
       none e = cond-true _ _ _ (or_left _ _ (eq-eqb _ 0 e))
 
       some : (marked_width o.width ≢ 0) → marked_blank o i ≡ 0
-      some e = let w = wide o.width e in cond-false _ _ _ (or_from _ _ (ne_eqb _ 0 e) (ne_eqb i 0 (omega (arith, w.width)))) ∙ l.blank-beyond (i - 1) (omega (arith, w.width))
+      some e = let w = wide o.width e in cond-false _ _ _ (or_from _ _ (ne_eqb _ 0 e) (ne_eqb i 0 (omega (arith, w.width)))) ∙ l.blank_beyond (i - 1) (omega (arith, w.width))
 
   -- the blank cell is the mark's 0 and then the blank cell below
-  blank-cell : marked_width o.width ≢ 0 → blanks (nonzero-ops o) ≡ 0 ∷ blanks o
+  blank-cell : marked_width o.width ≢ 0 → blanks (nonzero_ops o) ≡ 0 ∷ blanks o
   blank-cell h =
       let w = wide o.width h in
       ap (λ n. map (marked_blank o) (range_with_len 0 n)) w.width
@@ -160,18 +160,18 @@ module _ {A : Type 0} {o : Ops A} (l : Reading o) where
       some : (marked_width o.width ≢ 0) → marked_reads o (m ∷ bs) ≡ None
       some e = let w = wide o.width e in no_value _ _ _ (l.other_length bs (λ n. h (ap suc n ∙ sym w.width)))
 
-  no-width : marked_width o.width ≡ 0 → (cell : List ℕ) → marked_reads o cell ≡ None
-  no-width e [] = refl
-  no-width e (m ∷ bs) = cond-true _ _ _ (or_left _ _ (eq-eqb _ 0 e))
+  no_width : marked_width o.width ≡ 0 → (cell : List ℕ) → marked_reads o cell ≡ None
+  no_width e [] = refl
+  no_width e (m ∷ bs) = cond-true _ _ _ (or_left _ _ (eq-eqb _ 0 e))
 
-  pub nonzero-reading : Reading (nonzero-ops o)
+  pub nonzero-reading : Reading (nonzero_ops o)
   nonzero-reading = record {
     width_small = width_small o.width l.width_small;
-    blank-byte = λ i. pick-byte _ 0 _ (omega arith) (l.blank-byte (i - 1));
-    blank-beyond = beyond;
-    blank-reads = λ h. ap (marked_reads o) (blank-cell h) ∙ cond-false _ _ _ (or_from _ _ (ne_eqb _ 0 h) refl) ∙ ap (marking false) (l.blank-reads (wide o.width h).inner);
+    blank_byte = λ i. pick-byte _ 0 _ (omega arith) (l.blank_byte (i - 1));
+    blank_beyond = beyond;
+    blank_reads = λ h. ap (marked_reads o) (blank-cell h) ∙ cond-false _ _ _ (or_from _ _ (ne_eqb _ 0 h) refl) ∙ ap (marking false) (l.blank_reads (wide o.width h).inner);
     other_length = other_length;
-    no-width = no-width;
+    no_width = no_width;
   }
 
 -- the code takes the first byte and the rest; the model takes the list apart

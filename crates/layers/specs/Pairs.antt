@@ -28,8 +28,8 @@ module _ {A B : Type 0} (p : Ops A) (q : Ops B) where
   abbrev pub pair_reads : List ℕ → Option (Pair A B)
   pair_reads cell = cond (pair_width p.width q.width == 0 || not (length cell == pair_width p.width q.width)) None (both_of (p.reads (take p.width cell)) (q.reads (drop p.width cell)))
 
-  abbrev pub pair-ops : Ops (Pair A B)
-  pair-ops = record {
+  abbrev pub pair_ops : Ops (Pair A B)
+  pair_ops = record {
     width = pair_width p.width q.width;
     blank = pair_blank;
     reads = pair_reads;

@@ -3,8 +3,8 @@ use Rattle.std.specs.Prelude.{ℕ}
 use Rattle.domain.specs.Carrier.{Dom}
 use Rattle.layers.specs.declared.pair.Pair.{Pair}
 use Rattle.layers.specs.declared.nonzero.Nonzero.{Nonzero}
-use Rattle.layers.specs.Pairs.{both, pair-ops}
-use Rattle.layers.specs.Marks.{unless0, nonzero-ops}
+use Rattle.layers.specs.Pairs.{both, pair_ops}
+use Rattle.layers.specs.Marks.{unless0, nonzero_ops}
 
 -- a pile is one of the domains, a pair of two piles, or nonzero over a pile
 pub data Pile : Type 0 where
@@ -13,10 +13,10 @@ pub data Pile : Type 0 where
   nonzero : Pile → Pile
 
 abbrev pub pair_dom : Dom → Dom → Dom
-pair_dom a b = record { carrier = Pair a.carrier b.carrier; describes = both a.describes b.describes; ops = pair-ops a.ops b.ops }
+pair_dom a b = record { carrier = Pair a.carrier b.carrier; describes = both a.describes b.describes; ops = pair_ops a.ops b.ops }
 
 abbrev pub nonzero_dom : Dom → Dom
-nonzero_dom a = record { carrier = Nonzero a.carrier; describes = unless0 a.describes; ops = nonzero-ops a.ops }
+nonzero_dom a = record { carrier = Nonzero a.carrier; describes = unless0 a.describes; ops = nonzero_ops a.ops }
 
 -- the domain that a pile is, over the domains by number
 abbrev pub dom_of : (ℕ → Dom) → Pile → Dom

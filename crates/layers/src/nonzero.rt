@@ -1,6 +1,6 @@
 // The mark that a value is not 0, over any domain.
 ghost use Rattle.std.specs.Prelude.{◌≡◌, ◌||◌};
-ghost use Rattle.layers.specs.Marks.{unless0, marking, marks_kept, nonzero-ops};
+ghost use Rattle.layers.specs.Marks.{unless0, marking, marks_kept, nonzero_ops};
 ghost use Rattle.layers.specs.NonzeroLaws.{nonzero-order, nonzero-reading, nonzero-working, nonzero-narrowing};
 
 use domain::Domain;
@@ -39,7 +39,7 @@ fn marks_kept<A: Domain>(rel: Relation, b: Nonzero<A>) -> bool
 impl<A: Domain> Domain for Nonzero<A> {
     ghost describes = { unless0 A.Domain.describes };
 
-    ghost ops = { nonzero-ops A.Domain.ops };
+    ghost ops = { nonzero_ops A.Domain.ops };
 
     ghost order = { nonzero-order A.Domain.order };
 

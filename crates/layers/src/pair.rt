@@ -1,6 +1,6 @@
 // The pair of two domains: what is known in both ways at once.
 ghost use Rattle.std.specs.Prelude.{◌≡◌};
-ghost use Rattle.layers.specs.Pairs.{both, both_of, pair-ops};
+ghost use Rattle.layers.specs.Pairs.{both, both_of, pair_ops};
 ghost use Rattle.layers.specs.PairLaws.{pair-order, pair-working, pair-narrowing, pair-reading};
 
 use domain::Domain;
@@ -27,7 +27,7 @@ fn both_of<A: Copy, B: Copy>(first: Option<A>, second: Option<B>) -> Option<Pair
 impl<A: Domain, B: Domain> Domain for Pair<A, B> {
     ghost describes = { both A.Domain.describes B.Domain.describes };
 
-    ghost ops = { pair-ops A.Domain.ops B.Domain.ops };
+    ghost ops = { pair_ops A.Domain.ops B.Domain.ops };
 
     ghost order = { pair-order A.Domain.order B.Domain.order };
 

@@ -6,8 +6,8 @@ use Rattle.std.proofs.lemmas.Bool.{cases_eq, cond-false, or_from, ne_eqb, eq-eqb
 use Rattle.sheet.proofs.Accepted.{integer-read}
 use Rattle.domain.specs.Model.{Ops}
 use Rattle.domain.specs.Laws.{Reading}
-use Rattle.layers.specs.Marks.{marking, marked_width, nonzero-ops}
-use Rattle.layers.specs.Pairs.{both_of, pair_width, pair-ops}
+use Rattle.layers.specs.Marks.{marking, marked_width, nonzero_ops}
+use Rattle.layers.specs.Pairs.{both_of, pair_width, pair_ops}
 use Rattle.layers.specs.declared.nonzero.Nonzero.{Nonzero}
 use Rattle.layers.specs.declared.pair.Pair.{Pair}
 use Rattle.layers.specs.PairLaws.{wide}
@@ -39,11 +39,11 @@ stride-held s =
     let f = stride-facts s in
     ap₂ made (two_digits s.modulus (omega (arith, f))) (integer-read s.remainder f.int32) ∙ made-fits s.modulus s.remainder s.fits
 
-pub marked-held : {A : Type 0} (o : Ops A) (cell : A → List ℕ) (v : Nonzero A) → Holds o (cell v.inner) v.inner → Holds (nonzero-ops o) (marked_cell cell v) v
+pub marked-held : {A : Type 0} (o : Ops A) (cell : A → List ℕ) (v : Nonzero A) → Holds o (cell v.inner) v.inner → Holds (nonzero_ops o) (marked_cell cell v) v
 marked-held o cell v inner h =
     let some : o.width ≢ 0 = λ e. h (ap marked_width e) in
     let none : eqb (marked_width o.width) 0 ≡ false = ne_eqb _ 0 h in
-    elim v.marked as (λ m. (nonzero-ops o).reads (cond m 1 0 ∷ cell v.inner) ≡ Some (record { marked = m; inner = v.inner })) [
+    elim v.marked as (λ m. (nonzero_ops o).reads (cond m 1 0 ∷ cell v.inner) ≡ Some (record { marked = m; inner = v.inner })) [
       | true ↦ cond-false _ _ _ (or_from _ _ none refl) ∙ ap (marking true) (inner some)
       | false ↦ cond-false _ _ _ (or_from _ _ none refl) ∙ ap (marking false) (inner some)
     ]
@@ -53,7 +53,7 @@ reads-length : {A : Type 0} (o : Ops A) → Reading o → (cell : List ℕ) (v :
 reads-length o l cell v e = ⊎_elim (λ same. same) (λ other. let n = l.other_length cell other in let z : ◌≡◌ {A = ℕ} 0 1 = cc in absurd (omega arith)) (cases_eq (length cell) o.width)
 
 module _ {A B : Type 0} (p : Ops A) (q : Ops B) (l : Reading p) (m : Reading q) where
-  pub pair_held : (cell : A → List ℕ) (other : B → List ℕ) (v : Pair A B) → Holds p (cell v.first) v.first → Holds q (other v.second) v.second → Holds (pair-ops p q) (pair_cell cell other v) v
+  pub pair_held : (cell : A → List ℕ) (other : B → List ℕ) (v : Pair A B) → Holds p (cell v.first) v.first → Holds q (other v.second) v.second → Holds (pair_ops p q) (pair_cell cell other v) v
   pair_held cell other v first second h =
       let w = wide p.width q.width h in
       let a = cell v.first in

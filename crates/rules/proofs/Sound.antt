@@ -97,7 +97,7 @@ module _ {V : Type 0} (describes : V → ℤ → Type 0) (o : Ops V) (order : Or
       stage (unless (claims.present t) _) _ tt (λ _ there e₁.
       record {
         here = held (claims.present t) _ there;
-        each = λ x h. order.covers-sound (claims.cell t x) (values x)
+        each = λ x h. order.covers_sound (claims.cell t x) (values x)
             (all-below (covered o r claims t values) r.variables (held (all_below (covered o r claims t values) r.variables) _ e₁) x h)
             (look_up locals x) (small x) (each x h);
       }) e
@@ -247,20 +247,20 @@ module _ {V : Type 0} (describes : V → ℤ → Type 0) (o : Ops V) (order : Or
   -- a work row that passes does not divide by 0, and its result is an integer of 32 bits
   no-zero-trap : (x : ℕ) (op : Op) (a b t : ℕ) → Named (Work x op a b t) → Right o r claims s.place (Work x op a b t) → zero_trap op (look_up s.locals a) (look_up s.locals b) ≡ false
   no-zero-trap x op a b t named right =
-      working.zero-warned op (claims.cell s.place a) (claims.cell s.place b) (look_up s.locals a) (look_up s.locals b)
+      working.zero_warned op (claims.cell s.place a) (claims.cell s.place b) (look_up s.locals a) (look_up s.locals b)
       (k.small a) (k.small b) (k.described.each a named.1) (k.described.each b named.2)
       (quiet_of o r claims s.place x op a b t right.quiet).zero
 
   no-range-trap : (x : ℕ) (op : Op) (a b t : ℕ) → Named (Work x op a b t) → Right o r claims s.place (Work x op a b t) → range_trap op (look_up s.locals a) (look_up s.locals b) ≡ false
   no-range-trap x op a b t named right =
-      working.range-warned op (claims.cell s.place a) (claims.cell s.place b) (look_up s.locals a) (look_up s.locals b)
+      working.range_warned op (claims.cell s.place a) (claims.cell s.place b) (look_up s.locals a) (look_up s.locals b)
       (k.small a) (k.small b) (k.described.each a named.1) (k.described.each b named.2)
       (quiet_of o r claims s.place x op a b t right.quiet).range
 
   result-is : (x : ℕ) (op : Op) (a b t : ℕ) → Named (Work x op a b t) → Right o r claims s.place (Work x op a b t)
       → describes (o.works op (claims.cell s.place a) (claims.cell s.place b)).0 (exact op (look_up s.locals a) (look_up s.locals b))
   result-is x op a b t named right =
-      working.result-described op (claims.cell s.place a) (claims.cell s.place b) (look_up s.locals a) (look_up s.locals b)
+      working.result_described op (claims.cell s.place a) (claims.cell s.place b) (look_up s.locals a) (look_up s.locals b)
       (k.small a) (k.small b) (k.described.each a named.1) (k.described.each b named.2)
       (no-zero-trap x op a b t named right) (no-range-trap x op a b t named right)
 
@@ -269,14 +269,14 @@ module _ {V : Type 0} (describes : V → ℤ → Type 0) (o : Ops V) (order : Or
   assigns (Put x m t) named right n = λ e fits.
       let same : m ≡ n = eq-from-test (picked e) in
       put_on describes o order r claims s k made.few 0 x t (o.value m m) n named.0 fits
-      (order.value-describes m m n named.1 named.1 (le_of_eq same) (le_of_eq (sym same)))
+      (order.value_describes m m n named.1 named.1 (le_of_eq same) (le_of_eq (sym same)))
       (right.leads 0 (lit< tt))
   assigns (Take x i t) named right n = λ e fits.
       let input = input_on r.inputs i in
       let proper = made.inputs i in
       let b = between r.inputs i n (picked e) in
       put_on describes o order r claims s k made.few 0 x t (o.value input.lo input.hi) n named.0 fits
-      (order.value-describes input.lo input.hi n proper.lo proper.hi b.low b.high)
+      (order.value_describes input.lo input.hi n proper.lo proper.hi b.low b.high)
       (right.leads 0 (lit< tt))
   assigns (Work x op a b t) named right n = λ e fits.
       let v = (o.works op (claims.cell s.place a) (claims.cell s.place b)).0 in
@@ -353,8 +353,8 @@ module _ {V : Type 0} (describes : V → ℤ → Type 0) (o : Ops V) (order : Or
               let covers = held (o.covers (claims.cell 0 x) (o.value (pos 0) (pos 0))) _
               (up-each (λ y. unless (o.covers (claims.cell 0 y) (o.value (pos 0) (pos 0))) (fixed (StartUncovered y))) r.variables e x h) in
               subst (describes (claims.cell 0 x)) (sym (start_is x))
-              (order.covers-sound (claims.cell 0 x) (o.value (pos 0) (pos 0)) covers (pos 0) zero-small
-              (order.value-describes (pos 0) (pos 0) (pos 0) zero-small zero-small (le_refl (pos 0)) (le_refl (pos 0))));
+              (order.covers_sound (claims.cell 0 x) (o.value (pos 0) (pos 0)) covers (pos 0) zero-small
+              (order.value_describes (pos 0) (pos 0) (pos 0) zero-small zero-small (le_refl (pos 0)) (le_refl (pos 0))));
         };
         small = λ x. subst Int32 (sym (start_is x)) zero-small;
         sixteen = length-replicate 16 (pos 0);

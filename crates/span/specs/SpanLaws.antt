@@ -28,8 +28,8 @@ whole_covers : (a : Span) → covers whole a ≡ true
 unfolding whole
 whole_covers a = and_from (int_le least a.lo) (int_le a.hi greatest) (test-from-le a.low) (test-from-le a.high)
 
-value-describes : (lo hi z : ℤ) → Int32 lo → Int32 hi → lo ≤ℤ z → z ≤ℤ hi → Within (or_whole (spanned lo hi)) z
-value-describes lo hi z f g p q = go (spanned-made lo hi)
+value_describes : (lo hi z : ℤ) → Int32 lo → Int32 hi → lo ≤ℤ z → z ≤ℤ hi → Within (or_whole (spanned lo hi)) z
+value_describes lo hi z f g p q = go (spanned-made lo hi)
   where
     go : {o : Option Span} → Made lo hi o → Within (or_whole o) z
     go (one s d e) = record { from = subst (λ l. l ≤ℤ z) (sym d) p; to = subst (λ h. z ≤ℤ h) (sym e) q }
@@ -37,56 +37,56 @@ value-describes lo hi z f g p q = go (spanned-made lo hi)
 
 pub span-order : Order Within span_ops
 span-order = record {
-  anything-describes = whole-describes;
-  anything-covers = whole_covers;
-  value-describes = value-describes;
-  value-empty = λ lo hi _ _ h. ap or_whole (sym (none-order lo hi h));
-  covers-sound = λ a b t z _ h. (decides-covers a b).0 t z h;
+  anything_describes = whole-describes;
+  anything_covers = whole_covers;
+  value_describes = value_describes;
+  value_empty = λ lo hi _ _ h. ap or_whole (sym (none-order lo hi h));
+  covers_sound = λ a b t z _ h. (decides-covers a b).0 t z h;
   covers_self = λ a. and_from (int_le a.lo a.lo) (int_le a.hi a.hi) (test-from-le (le_refl a.lo)) (test-from-le (le_refl a.hi));
 }
 
 -- ---- reading
 
-blank-byte : (i : ℕ) → slice_index blank_cell i < 256
-blank-byte zero = lit< tt
-blank-byte (suc zero) = lit< tt
-blank-byte (suc (suc zero)) = lit< tt
-blank-byte (suc (suc (suc zero))) = lit< tt
-blank-byte (suc (suc (suc (suc zero)))) = lit< tt
-blank-byte (suc (suc (suc (suc (suc zero))))) = lit< tt
-blank-byte (suc (suc (suc (suc (suc (suc zero)))))) = lit< tt
-blank-byte (suc (suc (suc (suc (suc (suc (suc zero))))))) = lit< tt
-blank-byte (suc (suc (suc (suc (suc (suc (suc (suc n)))))))) = lit< tt
+blank_byte : (i : ℕ) → slice_index blank_cell i < 256
+blank_byte zero = lit< tt
+blank_byte (suc zero) = lit< tt
+blank_byte (suc (suc zero)) = lit< tt
+blank_byte (suc (suc (suc zero))) = lit< tt
+blank_byte (suc (suc (suc (suc zero)))) = lit< tt
+blank_byte (suc (suc (suc (suc (suc zero))))) = lit< tt
+blank_byte (suc (suc (suc (suc (suc (suc zero)))))) = lit< tt
+blank_byte (suc (suc (suc (suc (suc (suc (suc zero))))))) = lit< tt
+blank_byte (suc (suc (suc (suc (suc (suc (suc (suc n)))))))) = lit< tt
 
-blank-beyond : (i : ℕ) → 8 ≤ i → slice_index blank_cell i ≡ 0
-blank-beyond zero h = absurd (omega arith)
-blank-beyond (suc zero) h = absurd (omega arith)
-blank-beyond (suc (suc zero)) h = absurd (omega arith)
-blank-beyond (suc (suc (suc zero))) h = absurd (omega arith)
-blank-beyond (suc (suc (suc (suc zero)))) h = absurd (omega arith)
-blank-beyond (suc (suc (suc (suc (suc zero))))) h = absurd (omega arith)
-blank-beyond (suc (suc (suc (suc (suc (suc zero)))))) h = absurd (omega arith)
-blank-beyond (suc (suc (suc (suc (suc (suc (suc zero))))))) h = absurd (omega arith)
-blank-beyond (suc (suc (suc (suc (suc (suc (suc (suc n)))))))) h = refl
+blank_beyond : (i : ℕ) → 8 ≤ i → slice_index blank_cell i ≡ 0
+blank_beyond zero h = absurd (omega arith)
+blank_beyond (suc zero) h = absurd (omega arith)
+blank_beyond (suc (suc zero)) h = absurd (omega arith)
+blank_beyond (suc (suc (suc zero))) h = absurd (omega arith)
+blank_beyond (suc (suc (suc (suc zero)))) h = absurd (omega arith)
+blank_beyond (suc (suc (suc (suc (suc zero))))) h = absurd (omega arith)
+blank_beyond (suc (suc (suc (suc (suc (suc zero)))))) h = absurd (omega arith)
+blank_beyond (suc (suc (suc (suc (suc (suc (suc zero))))))) h = absurd (omega arith)
+blank_beyond (suc (suc (suc (suc (suc (suc (suc (suc n)))))))) h = refl
 
-blank-reads : read_span (blanks span_ops) ≡ Some whole
+blank_reads : read_span (blanks span_ops) ≡ Some whole
 unfolding whole
-blank-reads = sym (spanned-is whole least greatest refl refl)
+blank_reads = sym (spanned-is whole least greatest refl refl)
 
 pub span-reading : Reading span_ops
 span-reading = record {
   width_small = lit≤ tt;
-  blank-byte = blank-byte;
-  blank-beyond = blank-beyond;
-  blank-reads = λ _. blank-reads;
+  blank_byte = blank_byte;
+  blank_beyond = blank_beyond;
+  blank_reads = λ _. blank_reads;
   other_length = λ cell n. cond-false (length cell == 8) (spanned (word cell 0) (word cell 4)) None (ne_eqb (length cell) 8 n);
-  no-width = λ e _. absurd (omega arith);
+  no_width = λ e _. absurd (omega arith);
 }
 
 -- ---- working
 
-result-described : (op : Op) (a b : Span) (x y : ℤ) → Within a x → Within b y → zero_trap op x y ≡ false → range_trap op x y ≡ false → Within (works op a b).0 (exact op x y)
-result-described op a b x y p q nz nr =
+result_described : (op : Op) (a b : Span) (x y : ℤ) → Within a x → Within b y → zero_trap op x y ≡ false → range_trap op x y ≡ false → Within (works op a b).0 (exact op x y)
+result_described op a b x y p q nz nr =
     let w = works-worked op a b in
     ⊎_elim
     (λ t. subst (λ s. Within s (exact op x y)) (sym (w.warned t)) (whole-describes (exact op x y) fits))
@@ -101,15 +101,15 @@ result-described op a b x y p q nz nr =
 
 pub span-working : Working Within span_ops
 span-working = record {
-  zero-warned = λ op a b x y _ _ p q n. ⊎_elim
+  zero_warned = λ op a b x y _ _ p q n. ⊎_elim
       (λ t. absurd (both_ways (works op a b).1 n ((works-worked op a b).zero.1 (record { x = x; y = y; in_a = p; in_b = q; pair = t }))))
       (λ f. f)
       (cases_Bool (zero_trap op x y));
-  range-warned = λ op a b x y _ _ p q n. ⊎_elim
+  range_warned = λ op a b x y _ _ p q n. ⊎_elim
       (λ t. absurd (both_ways (works op a b).2 n ((works-worked op a b).range.1 (record { x = x; y = y; in_a = p; in_b = q; pair = t }))))
       (λ f. f)
       (cases_Bool (range_trap op x y));
-  result-described = λ op a b x y _ _ p q nz nr. result-described op a b x y p q nz nr;
+  result_described = λ op a b x y _ _ p q nz nr. result_described op a b x y p q nz nr;
 }
 
 -- ---- narrowing

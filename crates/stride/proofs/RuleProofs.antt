@@ -19,7 +19,7 @@ use Rattle.stride.specs.Strides.{describes, made, anything, strided, covers, val
 use Rattle.stride.specs.Rules.{NoMore, FromTo, Exactly, Moves, Gives, Works, Narrows, Examples}
 use Rattle.stride.specs.Multiples.{divides-multiple, congruent-to, gcd-positive, gcd-small, gcd-greatest}
 use Rattle.stride.specs.Made.{stride-facts, fitting-constant, fitting-moving, strided-fits}
-use Rattle.stride.specs.StrideLaws.{only-remainder, covers-sound, constants-zero, constants-range, constants-value, fits-exact, constants-warned, not-constants}
+use Rattle.stride.specs.StrideLaws.{only-remainder, covers_sound, constants-zero, constants-range, constants-value, fits-exact, constants-warned, not-constants}
 
 -- covering: two integers that b describes decide it, its remainder and the next one
 next-described : (m : ℕ) (r : ℤ) → Congruent m (r +ℤ pos m) r
@@ -50,7 +50,7 @@ covers-complete a b h = and_from _ _ (divides-multiple a.modulus b.modulus (⊎_
         (congruent-to a.modulus (b.remainder +ℤ pos b.modulus) b.remainder (congruent-trans a.modulus (b.remainder +ℤ pos b.modulus) a.remainder b.remainder there (congruent-sym a.modulus b.remainder a.remainder here)))
 
 pub covers-exactly : (a b : Stride) → Decides (covers a b) (NoMore b a)
-covers-exactly a b = (λ e z _ d. covers-sound a b e z d, covers-complete a b)
+covers-exactly a b = (λ e z _ d. covers_sound a b e z d, covers-complete a b)
 
 -- values of a range
 pub value-from-to : (lo hi : ℤ) → Int32 lo → FromTo lo hi (value lo hi)
@@ -114,7 +114,7 @@ is-equal AtLeast h = absurd (false≢true h)
 
 -- a constant that is covered by a constant is the same integer
 covered-constant : (a b : Stride) → a.modulus ≡ 0 → covers a b ≡ true → a.remainder ≡ b.remainder
-covered-constant a b z t = sym (only-remainder a.modulus b.remainder a.remainder z (covers-sound a b t b.remainder (congruent-refl b.modulus b.remainder)))
+covered-constant a b z t = sym (only-remainder a.modulus b.remainder a.remainder z (covers_sound a b t b.remainder (congruent-refl b.modulus b.remainder)))
 
 pub narrows-means : (a : Stride) (rel : Relation) (b : Stride) → Narrows a rel b (narrows a rel b)
 narrows-means a rel b = record { equal = equal; failed = failed; otherwise = otherwise }

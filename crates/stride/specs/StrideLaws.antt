@@ -29,11 +29,11 @@ by_one x y = (x -ℤ y, once x y)
     once : (x y : ℤ) → x ≡ y +ℤ (pos 1 *ℤ (x -ℤ y))
     once x y = omega (arith, ints)
 
-pub anything-describes : (z : ℤ) → describes anything z
-anything-describes z = by_one z (pos 0)
+pub anything_describes : (z : ℤ) → describes anything z
+anything_describes z = by_one z (pos 0)
 
-pub value-describes : (lo hi z : ℤ) → Int32 lo → lo ≤ℤ z → z ≤ℤ hi → describes (value lo hi) z
-value-describes lo hi z h i j = ⊎_elim one many (cases_Bool (eq_z lo hi))
+pub value_describes : (lo hi z : ℤ) → Int32 lo → lo ≤ℤ z → z ≤ℤ hi → describes (value lo hi) z
+value_describes lo hi z h i j = ⊎_elim one many (cases_Bool (eq_z lo hi))
   where
     one : eq_z lo hi ≡ true → describes (value lo hi) z
     one e =
@@ -41,13 +41,13 @@ value-describes lo hi z h i j = ⊎_elim one many (cases_Bool (eq_z lo hi))
         subst (λ s. describes s z) (sym (cond-true _ (strided 0 lo) anything e)) (strided-describes 0 lo z (fitting-constant lo h) (subst (λ t. Congruent 0 t lo) (sym same) (congruent-refl 0 lo)))
 
     many : eq_z lo hi ≡ false → describes (value lo hi) z
-    many e = subst (λ s. describes s z) (sym (cond-false _ (strided 0 lo) anything e)) (anything-describes z)
+    many e = subst (λ s. describes s z) (sym (cond-false _ (strided 0 lo) anything e)) (anything_describes z)
 
 unequal : (lo hi : ℤ) → hi <ℤ lo → eq_z lo hi ≡ false
 unequal lo hi h = grind (arith, ints)
 
-pub covers-sound : (a b : Stride) → covers a b ≡ true → (z : ℤ) → describes b z → describes a z
-covers-sound a b e z d =
+pub covers_sound : (a b : Stride) → covers a b ≡ true → (z : ℤ) → describes b z → describes a z
+covers_sound a b e z d =
     let p = and_parts (is_multiple a.modulus b.modulus) (is_multiple a.modulus (unsigned_abs (b.remainder -ℤ a.remainder))) e in
     congruent-trans a.modulus z b.remainder a.remainder (congruent-by a.modulus b.modulus z b.remainder (multiple-divides _ _ p.0) d) (congruent-from _ _ _ (multiple-divides _ _ p.1))
 
@@ -56,19 +56,19 @@ covers_self a = and_from _ _ (divides-multiple _ _ (dvd_refl a.modulus)) (divide
 
 pub stride-order : Order describes stride_ops
 stride-order = record {
-  anything-describes = λ z h. anything-describes z;
-  anything-covers = λ a. and_from _ _ (divides-multiple 1 a.modulus (one-dvd a.modulus)) (divides-multiple 1 _ (one-dvd (unsigned_abs (a.remainder -ℤ pos 0))));
-  value-describes = λ lo hi z h i j k. value-describes lo hi z h j k;
-  value-empty = λ lo hi h i j. cond-false _ _ _ (unequal lo hi j);
-  covers-sound = λ a b e z h d. covers-sound a b e z d;
+  anything_describes = λ z h. anything_describes z;
+  anything_covers = λ a. and_from _ _ (divides-multiple 1 a.modulus (one-dvd a.modulus)) (divides-multiple 1 _ (one-dvd (unsigned_abs (a.remainder -ℤ pos 0))));
+  value_describes = λ lo hi z h i j k. value_describes lo hi z h j k;
+  value_empty = λ lo hi h i j. cond-false _ _ _ (unequal lo hi j);
+  covers_sound = λ a b e z h d. covers_sound a b e z d;
   covers_self = covers_self;
 }
 
 -- reading
 
-blank-byte : (t : Bool) → cond t 1 0 < 256
-blank-byte true = omega arith
-blank-byte false = omega arith
+blank_byte : (t : Bool) → cond t 1 0 < 256
+blank_byte true = omega arith
+blank_byte false = omega arith
 
 blank-cell : stride_ops.reads (Rattle.domain.specs.Laws.blanks stride_ops) ≡ Some anything
 unfolding made
@@ -77,11 +77,11 @@ blank-cell = refl
 pub stride-reading : Reading stride_ops
 stride-reading = record {
   width_small = omega arith;
-  blank-byte = λ i. blank-byte (i == 0);
-  blank-beyond = λ i h. cond-false _ _ _ (ne_eqb i 0 (omega arith));
-  blank-reads = λ _. blank-cell;
+  blank_byte = λ i. blank_byte (i == 0);
+  blank_beyond = λ i h. cond-false _ _ _ (ne_eqb i 0 (omega arith));
+  blank_reads = λ _. blank-cell;
   other_length = λ cell h. cond-false _ _ _ (ne_eqb (length cell) 6 h);
-  no-width = λ h cell. absurd (omega arith);
+  no_width = λ h cell. absurd (omega arith);
 }
 
 -- working
@@ -177,11 +177,11 @@ module _ (a b : Stride) where
     steps-describes Add = moved-describes (x +ℤ y) _ (gcd-sum a.modulus b.modulus x y a.remainder b.remainder d e)
     steps-describes Sub = moved-describes (x -ℤ y) _ (gcd-difference a.modulus b.modulus x y a.remainder b.remainder d e)
     steps-describes Mul = moved-describes (x *ℤ y) _ (gcd-product a.modulus b.modulus x y a.remainder b.remainder d e)
-    steps-describes Div = anything-describes _
-    steps-describes IsLess = anything-describes _
-    steps-describes IsAtMost = anything-describes _
-    steps-describes IsEqual = anything-describes _
-    steps-describes IsUnequal = anything-describes _
+    steps-describes Div = anything_describes _
+    steps-describes IsLess = anything_describes _
+    steps-describes IsAtMost = anything_describes _
+    steps-describes IsEqual = anything_describes _
+    steps-describes IsUnequal = anything_describes _
 
 both_constant : (a b : Stride) → (constant a && constant b) ≡ true → (a.modulus ≡ 0) × (b.modulus ≡ 0)
 both_constant a b t = let p = and_parts (constant a) (constant b) t in (eqb-true a.modulus 0 p.0, eqb-true b.modulus 0 p.1)
@@ -198,29 +198,29 @@ module _ (op : Op) (a b : Stride) (x y : ℤ) (d : describes a x) (e : describes
   otherwise : (constant a && constant b) ≡ false → works op a b ≡ steps op (gcd a.modulus b.modulus) a.remainder b.remainder
   otherwise t = cond-false _ _ _ t
 
-  zero-warned : (works op a b).1 ≡ false → zero_trap op x y ≡ false
-  zero-warned w = ⊎_elim
+  zero_warned : (works op a b).1 ≡ false → zero_trap op x y ≡ false
+  zero_warned w = ⊎_elim
       (λ t. sym (constants-zero (zero_trap op x y) (range_trap op x y) (exact op x y)) ∙ sym (ap (λ r. r.1) (on-constants t)) ∙ w)
       (λ t. steps-zero a b op _ x y e (sym (ap (λ r. r.1) (otherwise t)) ∙ w))
       (cases_Bool (constant a && constant b))
 
-  range-warned : (works op a b).2 ≡ false → range_trap op x y ≡ false
-  range-warned w = ⊎_elim
+  range_warned : (works op a b).2 ≡ false → range_trap op x y ≡ false
+  range_warned w = ⊎_elim
       (λ t. sym (constants-range (zero_trap op x y) (not (fits32 (exact op x y))) (exact op x y)) ∙ sym (ap (λ r. r.2) (on-constants t)) ∙ w)
       (λ t. steps-range a b op _ x y (sym (ap (λ r. r.2) (otherwise t)) ∙ w))
       (cases_Bool (constant a && constant b))
 
-  result-described : zero_trap op x y ≡ false → range_trap op x y ≡ false → describes (works op a b).0 (exact op x y)
-  result-described h i = ⊎_elim
+  result_described : zero_trap op x y ≡ false → range_trap op x y ≡ false → describes (works op a b).0 (exact op x y)
+  result_described h i = ⊎_elim
       (λ t. subst (λ s. describes s (exact op x y)) (sym (ap (λ r. r.0) (on-constants t) ∙ constants-value (zero_trap op x y) (range_trap op x y) (exact op x y) h i)) (strided-describes 0 (exact op x y) (exact op x y) (fits-exact op x y h i) (congruent-refl 0 (exact op x y))))
       (λ t. subst (λ r. describes r.0 (exact op x y)) (sym (otherwise t)) (steps-describes a b (one-moves a b t) x y d e op))
       (cases_Bool (constant a && constant b))
 
 pub stride-working : Working describes stride_ops
 stride-working = record {
-  zero-warned = λ op a b x y h i d e. zero-warned op a b x y d e;
-  range-warned = λ op a b x y h i d e. range-warned op a b x y d e;
-  result-described = λ op a b x y h i d e. result-described op a b x y d e;
+  zero_warned = λ op a b x y h i d e. zero_warned op a b x y d e;
+  range_warned = λ op a b x y h i d e. range_warned op a b x y d e;
+  result_described = λ op a b x y h i d e. result_described op a b x y d e;
 }
 
 -- narrowing

@@ -10,7 +10,7 @@ use Rattle.sheet.specs.declared.refusals.Refusal.TheVariants.{EntryFlag, CellUnr
 use Rattle.sheet.proofs.Formed.{chunk-length}
 use Rattle.domain.specs.Model.{Ops}
 use Rattle.domain.specs.Laws.{Reading, blanks}
-use Rattle.layers.specs.Pairs.{both_of, pair_width, pair_reads, pair-ops}
+use Rattle.layers.specs.Pairs.{both_of, pair_width, pair_reads, pair_ops}
 use Rattle.layers.specs.PairLaws.{Wide, pair-reading}
 use Rattle.rules.specs.Faults.{fixed}
 use Rattle.rules.specs.Tables.{Table, entry_at, flag_at, cell_at, table_of, claims_of, entry_right, entries_right}
@@ -57,7 +57,7 @@ module _ {A B : Type 0} (p : Ops A) (q : Ops B) (lp : Reading p) (lq : Reading q
   reads_both cell sized =
       let long : length (cell ++ blanks q) ≡ pair_width p.width q.width = length-append cell (blanks q) ∙ ap₂ ◌+◌ sized (blanks-length q) ∙ sym wide.sum in
       cond-false _ _ _ (or_from _ _ (ne_eqb (pair_width p.width q.width) 0 (λ e. wide.first (omega (arith, wide.sum)))) (not_from_true _ (eq-eqb _ _ long)))
-      ∙ ap₂ both_of (ap p.reads (take_at cell (blanks q) p.width sized)) (ap q.reads (drop_at cell (blanks q) p.width sized) ∙ lq.blank-reads wide.second)
+      ∙ ap₂ both_of (ap p.reads (take_at cell (blanks q) p.width sized)) (ap q.reads (drop_at cell (blanks q) p.width sized) ∙ lq.blank_reads wide.second)
 
   -- no cell is none of either
   reads_none : pair_reads p q [] ≡ both_of (p.reads []) (Some q.anything)
@@ -77,51 +77,51 @@ module _ {A B : Type 0} (p : Ops A) (q : Ops B) (lp : Reading p) (lq : Reading q
     pub wide-table-sized : length (widened_table q (table_of p s)) ≡ s.places * (1 + s.variables * pair_width p.width q.width)
     wide-table-sized = length-pieces (widened_entry q (table_of p s)) (1 + s.variables * pair_width p.width q.width) s.places wide-entry-sized
 
-    entry-is : (place : ℕ) → place < s.places → entry_at (table_of (pair-ops p q) (widened_parts p q s)) place ≡ widened_entry q (table_of p s) place
+    entry-is : (place : ℕ) → place < s.places → entry_at (table_of (pair_ops p q) (widened_parts p q s)) place ≡ widened_entry q (table_of p s) place
     entry-is place h = chunk-pieces (widened_entry q (table_of p s)) (1 + s.variables * pair_width p.width q.width) s.places wide-entry-sized place h
 
-    cell-is : (place x : ℕ) → place < s.places → x < s.variables → cell_at (table_of (pair-ops p q) (widened_parts p q s)) place x ≡ widened_cell q (table_of p s) place x
+    cell-is : (place x : ℕ) → place < s.places → x < s.variables → cell_at (table_of (pair_ops p q) (widened_parts p q s)) place x ≡ widened_cell q (table_of p s) place x
     cell-is place x h k =
         ap (λ e. chunk (pair_width p.width q.width) x (drop 1 e)) (entry-is place h)
         ∙ chunk-pieces (widened_cell q (table_of p s) place) (pair_width p.width q.width) s.variables (λ y i. wide-cell-sized place y h i) x k
 
     -- every flag is as it was
-    flag_is : (place : ℕ) → flag_at (table_of (pair-ops p q) (widened_parts p q s)) place ≡ flag_at (table_of p s) place
+    flag_is : (place : ℕ) → flag_at (table_of (pair_ops p q) (widened_parts p q s)) place ≡ flag_at (table_of p s) place
     flag_is place = ⊎_elim
         (λ (h : place < s.places). ap (λ e. get_or e 0 0) (entry-is place h))
         (λ (h : s.places ≤ place).
-        ap (λ e. get_or e 0 0) (no-entry (table_of (pair-ops p q) (widened_parts p q s)) wide-table-sized place h ∙ sym (no-entry (table_of p s) whole place h)))
+        ap (λ e. get_or e 0 0) (no-entry (table_of (pair_ops p q) (widened_parts p q s)) wide-table-sized place h ∙ sym (no-entry (table_of p s) whole place h)))
         (cases_lt place s.places)
 
     -- every cell reads as what it read as, and anything
-    both-gone : (place x : ℕ) → cell_at (table_of (pair-ops p q) (widened_parts p q s)) place x ≡ [] → cell_at (table_of p s) place x ≡ []
-        → pair_reads p q (cell_at (table_of (pair-ops p q) (widened_parts p q s)) place x) ≡ both_of (p.reads (cell_at (table_of p s) place x)) (Some q.anything)
+    both-gone : (place x : ℕ) → cell_at (table_of (pair_ops p q) (widened_parts p q s)) place x ≡ [] → cell_at (table_of p s) place x ≡ []
+        → pair_reads p q (cell_at (table_of (pair_ops p q) (widened_parts p q s)) place x) ≡ both_of (p.reads (cell_at (table_of p s) place x)) (Some q.anything)
     both-gone place x e f = ap (pair_reads p q) e ∙ reads_none ∙ sym (ap (λ c. both_of (p.reads c) (Some q.anything)) f)
 
-    reads-are : (place x : ℕ) → pair_reads p q (cell_at (table_of (pair-ops p q) (widened_parts p q s)) place x) ≡ both_of (p.reads (cell_at (table_of p s) place x)) (Some q.anything)
+    reads-are : (place x : ℕ) → pair_reads p q (cell_at (table_of (pair_ops p q) (widened_parts p q s)) place x) ≡ both_of (p.reads (cell_at (table_of p s) place x)) (Some q.anything)
     reads-are place x = ⊎_elim
         (λ (h : place < s.places). ⊎_elim
         (λ (k : x < s.variables). ap (pair_reads p q) (cell-is place x h k) ∙ reads_both (cell_at (table_of p s) place x) (cell-sized (table_of p s) whole place x h k))
         (λ (k : s.variables ≤ x).
-        both-gone place x (no_cell (table_of (pair-ops p q) (widened_parts p q s)) wide-table-sized place x h k) (no_cell (table_of p s) whole place x h k))
+        both-gone place x (no_cell (table_of (pair_ops p q) (widened_parts p q s)) wide-table-sized place x h k) (no_cell (table_of p s) whole place x h k))
         (cases_lt x s.variables))
         (λ (h : s.places ≤ place).
-        both-gone place x (no_cells (table_of (pair-ops p q) (widened_parts p q s)) wide-table-sized place x h) (no_cells (table_of p s) whole place x h))
+        both-gone place x (no_cells (table_of (pair_ops p q) (widened_parts p q s)) wide-table-sized place x h) (no_cells (table_of p s) whole place x h))
         (cases_lt place s.places)
 
     -- what the widened table claims
-    pub claims-are : claims_of (pair-ops p q) (table_of (pair-ops p q) (widened_parts p q s)) ≡ lifted q.anything (claims_of p (table_of p s))
+    pub claims-are : claims_of (pair_ops p q) (table_of (pair_ops p q) (widened_parts p q s)) ≡ lifted q.anything (claims_of p (table_of p s))
     claims-are = λ i. record {
       present = λ place. eqb (flag_is place i) 1;
       cell = λ place x.
-          (ap (λ r. unwrap_or r (pair-ops p q).anything) (reads-are place x) ∙ both-value (p.reads (cell_at (table_of p s) place x)) p.anything q.anything) i;
+          (ap (λ r. unwrap_or r (pair_ops p q).anything) (reads-are place x) ∙ both-value (p.reads (cell_at (table_of p s) place x)) p.anything q.anything) i;
     }
 
-    entry_kept : (place : ℕ) → entry_right p (table_of p s) place ≡ Ok tt → entry_right (pair-ops p q) (table_of (pair-ops p q) (widened_parts p q s)) place ≡ Ok tt
+    entry_kept : (place : ℕ) → entry_right p (table_of p s) place ≡ Ok tt → entry_right (pair_ops p q) (table_of (pair_ops p q) (widened_parts p q s)) place ≡ Ok tt
     entry_kept place e =
         subst (λ f. and_then (unless (ltb f 2) (fixed (EntryFlag place)))
         (λ _. cond (eqb f 1)
-        (up_to (λ x. unless (is_some (pair_reads p q (cell_at (table_of (pair-ops p q) (widened_parts p q s)) place x))) (fixed (CellUnreadable place x))) s.variables)
+        (up_to (λ x. unless (is_some (pair_reads p q (cell_at (table_of (pair_ops p q) (widened_parts p q s)) place x))) (fixed (CellUnreadable place x))) s.variables)
         (Ok tt)) ≡ Ok tt)
         (sym (flag_is place))
         (then-kept _ _ _ _ (λ k. k)
@@ -131,5 +131,5 @@ module _ {A B : Type 0} (p : Ops A) (q : Ops B) (lp : Reading p) (lq : Reading q
         e)
 
     -- every entry can be read
-    pub entries-kept : entries_right p (table_of p s) ≡ Ok tt → entries_right (pair-ops p q) (table_of (pair-ops p q) (widened_parts p q s)) ≡ Ok tt
+    pub entries-kept : entries_right p (table_of p s) ≡ Ok tt → entries_right (pair_ops p q) (table_of (pair_ops p q) (widened_parts p q s)) ≡ Ok tt
     entries-kept = up-on _ _ s.places (λ place h. entry_kept place)

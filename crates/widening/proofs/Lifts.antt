@@ -12,7 +12,7 @@ use Rattle.machine.specs.declared.Row.TheVariants.{End, Put, Take, Work, Fork}
 use Rattle.sheet.specs.declared.refusals.Refusal.TheVariants.{ZeroWarning, RangeWarning}
 use Rattle.domain.specs.Model.{Ops}
 use Rattle.layers.specs.declared.pair.Pair.{Pair}
-use Rattle.layers.specs.Pairs.{both_of, pair-ops}
+use Rattle.layers.specs.Pairs.{both_of, pair_ops}
 use Rattle.rules.specs.Claims.{Claims}
 use Rattle.rules.specs.Faults.{fixed}
 use Rattle.rules.specs.Ways.{Way, pass, go, changed, meeting, fork_way, way, ways}
@@ -74,7 +74,7 @@ changed-first cells wide same x v y = first_of (eqb y x) v (wide y) ∙ ap (cond
 
 module _ {A B : Type 0} (p : Ops A) (q : Ops B) where
   follows-met : (t a b : ℕ) (cells : ℕ → A) (wide : ℕ → Pair A B) → ((y : ℕ) → (wide y).first ≡ cells y) → (v w : Option A) (m n : Option B)
-      → Follows (meeting p t cells a b v w) (meeting (pair-ops p q) t wide a b (both_of v m) (both_of w n))
+      → Follows (meeting p t cells a b v w) (meeting (pair_ops p q) t wide a b (both_of v m) (both_of w n))
   follows-met t a b cells wide same None w m n = tt
   follows-met t a b cells wide same (Some v) None None n = tt
   follows-met t a b cells wide same (Some v) None (Some m) n = tt
@@ -88,14 +88,14 @@ module _ {A B : Type 0} (p : Ops A) (q : Ops B) where
   follows-either false v w m n h k = k
 
   -- a fork, from cells that say nothing in the second domain
-  follows-fork : (cells : ℕ → A) (rel : Relation) (a b t : ℕ) → Follows (fork_way p cells rel a b t) (fork_way (pair-ops p q) (beside q.anything cells) rel a b t)
+  follows-fork : (cells : ℕ → A) (rel : Relation) (a b t : ℕ) → Follows (fork_way p cells rel a b t) (fork_way (pair_ops p q) (beside q.anything cells) rel a b t)
   follows-fork cells rel a b t =
       follows-either (eqb a b) (go t cells) _ (go t (beside q.anything cells)) _ (refl, λ _. refl)
       (follows-met t a b cells (beside q.anything cells) (λ _. refl)
       (p.narrows (cells a) rel (cells b)) (p.narrows (cells b) (mirrored rel) (cells a))
       (q.narrows q.anything rel q.anything) (q.narrows q.anything (mirrored rel) q.anything))
 
-  follows-way : (inputs : List Input) (row : Row) (cells : ℕ → A) (w : ℕ) → Follows (way p inputs row cells w) (way (pair-ops p q) inputs row (beside q.anything cells) w)
+  follows-way : (inputs : List Input) (row : Row) (cells : ℕ → A) (w : ℕ) → Follows (way p inputs row cells w) (way (pair_ops p q) inputs row (beside q.anything cells) w)
   follows-way inputs End cells w = tt
   follows-way inputs (Put x n t) cells w = (refl, changed-first cells (beside q.anything cells) (λ _. refl) x _)
   follows-way inputs (Take x k t) cells w = (refl, changed-first cells (beside q.anything cells) (λ _. refl) x _)
@@ -104,11 +104,11 @@ module _ {A B : Type 0} (p : Ops A) (q : Ops B) where
   follows-way inputs (Fork rel a b t u) cells (suc w) = follows-fork cells (opposite rel) a b u
 
   module _ (any : (b : B) → q.covers q.anything b ≡ true) (r : Routine) (claims : Claims A) where
-    pub start-kept : start_right p r claims ≡ Ok tt → start_right (pair-ops p q) r (lifted q.anything claims) ≡ Ok tt
+    pub start-kept : start_right p r claims ≡ Ok tt → start_right (pair_ops p q) r (lifted q.anything claims) ≡ Ok tt
     start-kept = then-kept _ _ _ _ (λ e. e)
         (up-on _ _ r.variables (λ x h. test-kept _ _ _ _ (λ e. and_from _ _ e (any (q.value (pos 0) (pos 0))))))
 
-    unwarned-kept : (place : ℕ) (row : Row) → unwarned p r claims place row ≡ Ok tt → unwarned (pair-ops p q) r (lifted q.anything claims) place row ≡ Ok tt
+    unwarned-kept : (place : ℕ) (row : Row) → unwarned p r claims place row ≡ Ok tt → unwarned (pair_ops p q) r (lifted q.anything claims) place row ≡ Ok tt
     unwarned-kept place End e = refl
     unwarned-kept place (Put x n t) e = refl
     unwarned-kept place (Take x k t) e = refl
@@ -119,23 +119,23 @@ module _ {A B : Type 0} (p : Ops A) (q : Ops B) where
     unwarned-kept place (Fork rel a b t u) e = refl
 
     lands-there : (place w t : ℕ) (v : ℕ → A) (m : ℕ → Pair A B) → ((x : ℕ) → (m x).first ≡ v x)
-        → lands p r claims place w (go t v) ≡ Ok tt → lands (pair-ops p q) r (lifted q.anything claims) place w (go t m) ≡ Ok tt
+        → lands p r claims place w (go t v) ≡ Ok tt → lands (pair_ops p q) r (lifted q.anything claims) place w (go t m) ≡ Ok tt
     lands-there place w t v m same = then-kept _ _ _ _ (λ e. e)
-        (test-kept _ _ _ _ (all-on (covered p r claims t v) (covered (pair-ops p q) r (lifted q.anything claims) t m) r.variables
+        (test-kept _ _ _ _ (all-on (covered p r claims t v) (covered (pair_ops p q) r (lifted q.anything claims) t m) r.variables
         (λ x e. and_from _ _ (subst (λ y. p.covers (claims.cell t x) y ≡ true) (sym (same x)) e) (any (m x).second))))
 
-    lands-kept : (place w : ℕ) (v : Way A) (m : Way (Pair A B)) → Follows v m → lands p r claims place w v ≡ Ok tt → lands (pair-ops p q) r (lifted q.anything claims) place w m ≡ Ok tt
+    lands-kept : (place w : ℕ) (v : Way A) (m : Way (Pair A B)) → Follows v m → lands p r claims place w v ≡ Ok tt → lands (pair_ops p q) r (lifted q.anything claims) place w m ≡ Ok tt
     lands-kept place w pass pass f e = refl
     lands-kept place w pass (go u m) f e = absurd f
     lands-kept place w (go t v) pass f e = refl
-    lands-kept place w (go t v) (go u m) f e = subst (λ z. lands (pair-ops p q) r (lifted q.anything claims) place w (go z m) ≡ Ok tt) f.0 (lands-there place w t v m f.1 e)
+    lands-kept place w (go t v) (go u m) f e = subst (λ z. lands (pair_ops p q) r (lifted q.anything claims) place w (go z m) ≡ Ok tt) f.0 (lands-there place w t v m f.1 e)
 
-    way-kept : (place w : ℕ) → way_right p r claims place w ≡ Ok tt → way_right (pair-ops p q) r (lifted q.anything claims) place w ≡ Ok tt
+    way-kept : (place w : ℕ) → way_right p r claims place w ≡ Ok tt → way_right (pair_ops p q) r (lifted q.anything claims) place w ≡ Ok tt
     way-kept place w = lands-kept place w _ _ (follows-way r.inputs (row_on r.rows place) (claims.cell place) w)
 
-    place_kept : (place : ℕ) → place_right p r claims place ≡ Ok tt → place_right (pair-ops p q) r (lifted q.anything claims) place ≡ Ok tt
+    place_kept : (place : ℕ) → place_right p r claims place ≡ Ok tt → place_right (pair_ops p q) r (lifted q.anything claims) place ≡ Ok tt
     place_kept place = then-kept _ _ _ _ (unwarned-kept place (row_on r.rows place))
-        (up-on (way_right p r claims place) (way_right (pair-ops p q) r (lifted q.anything claims) place) (ways r.inputs (row_on r.rows place)) (λ w h. way-kept place w))
+        (up-on (way_right p r claims place) (way_right (pair_ops p q) r (lifted q.anything claims) place) (ways r.inputs (row_on r.rows place)) (λ w h. way-kept place w))
 
-    pub places-kept : (places : ℕ) → places_right p r claims places ≡ Ok tt → places_right (pair-ops p q) r (lifted q.anything claims) places ≡ Ok tt
+    pub places-kept : (places : ℕ) → places_right p r claims places ≡ Ok tt → places_right (pair_ops p q) r (lifted q.anything claims) places ≡ Ok tt
     places-kept places = up-on _ _ places (λ place h. where-present (claims.present place) _ _ (place_kept place))

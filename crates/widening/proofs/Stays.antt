@@ -41,7 +41,7 @@ bytes_of_head s h k =
 
 blanks-bytes : {B : Type 0} (q : Ops B) → Reading q → AllBytes (blanks q)
 blanks-bytes q l i = ⊎_elim
-    (λ (h : i < q.width). rw (get_or-map-range_with_len q.blank 0 q.width i i 0 h (omega arith)) (l.blank-byte i))
+    (λ (h : i < q.width). rw (get_or-map-range_with_len q.blank 0 q.width i i 0 h (omega arith)) (l.blank_byte i))
     (λ (h : q.width ≤ i). rw (get_or_past (blanks q) i 0 (omega (arith, length-map-range_with_len q.blank 0 q.width))) (omega arith))
     (cases_lt i q.width)
 

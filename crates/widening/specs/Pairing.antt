@@ -3,7 +3,7 @@ use Rattle.std.specs.Prelude.{◌≡◌, ℕ, ◌≢◌, List, Ok}
 use Rattle.sheet.specs.Bytes.{AllBytes}
 use Rattle.domain.specs.Model.{Ops}
 use Rattle.domain.specs.Carrier.{Dom}
-use Rattle.layers.specs.Pairs.{pair_width, pair-ops}
+use Rattle.layers.specs.Pairs.{pair_width, pair_ops}
 use Rattle.rules.specs.Tables.{verdict_of}
 use Rattle.widening.specs.Widened.{widened}
 
@@ -11,7 +11,7 @@ use Rattle.widening.specs.Widened.{widened}
 abbrev pub Pairing : {A B : Type 0} → Ops A → Ops B → Type 0
 Pairing p q =
     (bs : List ℕ) (n : ℕ) → AllBytes bs → verdict_of p bs ≡ Ok n → pair_width p.width q.width ≢ 0
-    → verdict_of (pair-ops p q) (widened p q bs) ≡ Ok n
+    → verdict_of (pair_ops p q) (widened p q bs) ≡ Ok n
 
 -- what is written are bytes again
 abbrev pub StaysBytes : {A B : Type 0} → Ops A → Ops B → Type 0
