@@ -20,6 +20,7 @@ WORDS = {"natAbs": "unsigned_abs"}
 OTHERS = {("widening", "head_bytes"): "bytes_of_head"}
 # The definition's older name: once it is gone, the lemma has its new name already.
 BEFORE = {("widening", "head_bytes"): "headBytes"}
+STRING = re.compile(r'("(?:[^"\\\n]|\\.)*")')
 TOKEN = re.compile(r"(?<![\w'\-])[^\W\d][\w']*(?:-[\w']+)*")
 SIGNED = re.compile(r"^\s*(?:abbrev |unfoldable )?(?:pub )?([^\s:(){}]+)\s*:(?:\s|$)", re.M)
 DEFINED = re.compile(r"^ *(?:abbrev |unfoldable )(?:pub )?([^\s:(){}]+)\s*:", re.M)
@@ -85,8 +86,8 @@ def main():
             text = f.read()
         crate = path.split(os.sep)[2]
         turn = lambda m: renamed(m.group(0), dashed, crate)
-        outcome[path] = TOKEN.sub(turn, text)
-        for token in TOKEN.findall(text):
+        outcome[path] = "".join(t if t.startswith('"') else TOKEN.sub(turn, t) for t in STRING.split(text))
+        for token in TOKEN.findall(STRING.sub(" ", text)):
             if renamed(token, dashed, crate) != token:
                 changes[token].add(renamed(token, dashed, crate))
         if path.endswith(".antt"):

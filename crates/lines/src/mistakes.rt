@@ -137,7 +137,7 @@ impl Reason {
             Reason::RowMany => "there are at most 256 places",
             Reason::RowOrder { .. } => "the next row is number",
             Reason::RowForm => {
-                "a row is 'end', 'vX := N, go to P', 'vX := input K, go to P', 'vX := v_a OP v_b, go to P' or 'if v_a REL v_b go to P else P'"
+                "a row is 'end', 'vX := N, go to P', 'vX := input K, go to P', 'vX := vA OP vB, go to P' or 'if vA REL vB go to P else P'"
             }
             _ => self.later_rule(),
         }
