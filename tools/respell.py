@@ -16,13 +16,19 @@ import sys
 
 # Words of the older library inside names of our own lemmas, by today's word.
 WORDS = {"natAbs": "unsigned_abs"}
-# Lemmas that get another name, since a definition comes to have theirs: crate, lemma, and its new name.
-OTHERS = {("widening", "head_bytes"): "bytes_of_head"}
+# Lemmas that get another name, since a definition comes to have theirs, or one that differs by a sign alone: crate, lemma,
+# and its new name.
+OTHERS = {
+    ("widening", "head_bytes"): "bytes_of_head",
+    ("span", "are-ends"): "are_ends-ordered",
+    ("span", "range-trap"): "range_trap-unfit",
+}
 # The definition's older name: once it is gone, the lemma has its new name already.
 BEFORE = {("widening", "head_bytes"): "headBytes"}
 STRING = re.compile(r'("(?:[^"\\\n]|\\.)*")')
 TOKEN = re.compile(r"(?<![\w'\-])[^\W\d][\w']*(?:-[\w']+)*")
 SIGNED = re.compile(r"^\s*(?:abbrev |unfoldable )?(?:pub )?([^\s:(){}]+)\s*:(?:\s|$)", re.M)
+TYPE = re.compile(r"^ *(?:pub )?(?:data|record) (?:pub )?([^\s:(){}]+)", re.M)
 DEFINED = re.compile(r"^ *(?:abbrev |unfoldable )(?:pub )?([^\s:(){}]+)\s*:", re.M)
 BLOCK = re.compile(r"^( *)(?:pub )?(?:data|record)\b[^\n]*\n((?:\1  [^\n]*\n|\n)+)", re.M)
 
@@ -53,7 +59,7 @@ def no_dashes(paths):
         if path.endswith(".antt") and not re.search(r"/(Answers|Invariants|Proof)\.antt$", path):
             with open(path, encoding="utf-8") as f:
                 text = re.sub(r"--[^\n]*", "", f.read())
-            names.update(DEFINED.findall(text))
+            names.update(DEFINED.findall(text) + TYPE.findall(text))
             for indent, block in BLOCK.findall(text):
                 names.update(re.findall(rf"^{indent}  (?:pub )?([^\s:(){{}}]+)\s*:(?:\s|$)", block, re.M))
     return {n for n in names if "-" in n}

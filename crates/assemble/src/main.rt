@@ -1,5 +1,6 @@
 // Reads the text of a sheet from standard input and writes the sheet's bytes to standard output.
-// A mistake is told on standard error as `line N: reason`, nothing is written, and the program ends with status 1.
+// A mistake is told on standard error as `line N: reason`, nothing is written, and the program ends with status 1 and the
+// words `Error: no sheet`.
 // docs/TEXT.md has the form, which is what `disassemble` prints.
 #![tactic(auto)]
 

@@ -24,7 +24,6 @@ const LIMIT: u64 = 1_048_577;
 
 fn main(rt: HostRuntime) -> anyhow::Result<()> {
     let Some(domain) = chosen_domain(&rt)? else {
-        eprintln!(rt; "no domain has that name")?;
         return Err(anyhow!("no domain has that name"));
     };
     let mut bytes = Vec::new(rt.alloc());

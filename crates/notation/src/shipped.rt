@@ -95,6 +95,10 @@ impl DomainName {
 }
 
 fn push_value<D: Notation>(word: &str, out: &mut Vec<u8>) -> Result<bool, AllocError> {
+    // In the text of a sheet a number has no plus sign.
+    if word.contains('+') {
+        return Ok(false);
+    }
     match parsed::<D>(word) {
         Some(value) => {
             value.push_cell(out)?;

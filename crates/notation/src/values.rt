@@ -2,7 +2,6 @@
 ghost use Rattle.std.specs.Prelude.{◌≡◌, ℕ, List, ◌++◌, if◌then◌else◌, OnOk};
 ghost use Rattle.notation.specs.Cells.{Holds, span_cell, stride_cell, marked_cell, pair_cell};
 
-use crate::numbers::{integer, number};
 use domain::Domain;
 use layers::nonzero::Nonzero;
 use layers::pair::Pair;
@@ -66,12 +65,12 @@ fn tail(text: &str) -> Option<&str> {
 
 fn span_of(word: &str) -> Option<Span> {
     let (lo, hi) = word.split_once("..")?;
-    Span::between(i64::from(integer(lo)?), i64::from(integer(hi)?))
+    Span::between(lo.parse::<i64>().ok()?, hi.parse::<i64>().ok()?)
 }
 
 fn stride_of(word: &str) -> Option<Stride> {
     let (modulus, remainder) = word.split_once(':')?;
-    Stride::new(u16::try_from(number(modulus)?).ok()?, integer(remainder)?)
+    Stride::new(modulus.parse::<u16>().ok()?, remainder.parse::<i32>().ok()?)
 }
 
 // The bytes of a span: its ends.

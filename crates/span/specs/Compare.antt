@@ -13,7 +13,7 @@ use Rattle.number.proofs.Meaning.{decides-holds, holds-opposite, opposes}
 use Rattle.span.specs.declared.Span.{Span}
 use Rattle.span.specs.Ends.{Within, spanned, or_whole}
 use Rattle.span.specs.Works.{always, verdict, judged}
-use Rattle.span.specs.Means.{LeastSpan, LeastOf, Some-pair, EveryPair, Judged}
+use Rattle.span.specs.Means.{LeastSpan, LeastOf, SomePair, EveryPair, Judged}
 use Rattle.span.specs.Covering.{within-lo, within-hi}
 use Rattle.span.specs.Narrow.{least_by}
 
@@ -36,14 +36,14 @@ always-related AtLeast a b t x y p q = let h : b.hi ≤ℤ a.lo = le-from-test t
 pub always-holds : (rel : Relation) (a b : Span) → always rel a b ≡ true → EveryPair a b (λ x y. holds rel x y ≡ true)
 always-holds rel a b t x y p q = (decides-holds rel x y).1 (always-related rel a b t x y p q)
 
-pair_of : (a b : Span) (so : ℤ → ℤ → Type 0) (x y : ℤ) → Within a x → Within b y → so x y → Some-pair a b so
+pair_of : (a b : Span) (so : ℤ → ℤ → Type 0) (x y : ℤ) → Within a x → Within b y → so x y → SomePair a b so
 pair_of a b so x y p q h = record { x = x; y = y; in_a = p; in_b = q; pair = h }
 
 unequal-test : (x y : ℤ) → (x ≢ y) → eq_z x y ≡ false
 unequal-test x y n = ⊎_elim (λ e. absurd (n (eq-from-test e))) (λ e. e) (cases_Bool (eq_z x y))
 
 -- where it fails, some pair is not so related
-pub not-always : (rel : Relation) (a b : Span) → always rel a b ≡ false → Some-pair a b (λ x y. holds rel x y ≡ false)
+pub not-always : (rel : Relation) (a b : Span) → always rel a b ≡ false → SomePair a b (λ x y. holds rel x y ≡ false)
 not-always Less a b t = pair_of a b (λ x y. holds Less x y ≡ false) a.hi b.lo (within-hi a) (within-lo b) t
 not-always AtMost a b t = pair_of a b (λ x y. holds AtMost x y ≡ false) a.hi b.lo (within-hi a) (within-lo b) t
 not-always Equal a b t = ⊎_elim
@@ -72,7 +72,7 @@ decides-always rel a b = (
       (cases_Bool (always rel a b)),
 )
 
-not-every : (rel : Relation) (a b : Span) → Some-pair a b (λ x y. Related rel x y → ⊥) → always rel a b ≡ false
+not-every : (rel : Relation) (a b : Span) → SomePair a b (λ x y. Related rel x y → ⊥) → always rel a b ≡ false
 not-every rel a b w = ⊎_elim
     (λ t. absurd (w.pair (always-related rel a b t w.x w.y w.in_a w.in_b)))
     (λ f. f)
@@ -93,17 +93,17 @@ judged-judged rel a b = record {
 
 -- the results of a comparison
 abbrev pub Truths : Relation → Span → Span → ℤ → Type 0
-Truths rel a b z = Some-pair a b (λ x y. z ≡ truth (holds rel x y))
+Truths rel a b z = SomePair a b (λ x y. z ≡ truth (holds rel x y))
 
 pub or-whole-least : (set : ℤ → Type 0) (o : Option Span) (z : ℤ) → LeastOf set o → set z → LeastSpan set (or_whole o)
 or-whole-least set (Some s) z h w = h
 or-whole-least set None z h w = absurd (h z w)
 
 module _ (rel : Relation) (a b : Span) where
-  truth-of : (t : Bool) → Some-pair a b (λ x y. holds rel x y ≡ t) → Truths rel a b (truth t)
+  truth-of : (t : Bool) → SomePair a b (λ x y. holds rel x y ≡ t) → Truths rel a b (truth t)
   truth-of t s = pair_of a b (λ x y. truth t ≡ truth (holds rel x y)) s.x s.y s.in_a s.in_b (ap truth (sym s.pair))
 
-  corner : (t : Bool) → EveryPair a b (λ x y. holds rel x y ≡ t) → Some-pair a b (λ x y. holds rel x y ≡ t)
+  corner : (t : Bool) → EveryPair a b (λ x y. holds rel x y ≡ t) → SomePair a b (λ x y. holds rel x y ≡ t)
   corner t all = pair_of a b (λ x y. holds rel x y ≡ t) a.lo b.lo (within-lo a) (within-lo b) (all a.lo b.lo (within-lo a) (within-lo b))
 
   -- one truth value throughout

@@ -25,8 +25,8 @@ span-eq s t e f =
     (λ p q. subst (λ (h : ℤ). (q : s.lo ≤ℤ h) (r : h ≤ℤ greatest) → s ≡ made s.lo h p q r) f (λ q r. made-same s.lo s.hi s.low p s.ordered q s.high r) q t.high)
     t.low t.ordered
 
-pub are-ends : {lo hi : ℤ} → least ≤ℤ lo → lo ≤ℤ hi → hi ≤ℤ greatest → are_ends lo hi ≡ true
-are-ends {lo} {hi} p q r =
+pub are_ends-ordered : {lo hi : ℤ} → least ≤ℤ lo → lo ≤ℤ hi → hi ≤ℤ greatest → are_ends lo hi ≡ true
+are_ends-ordered {lo} {hi} p q r =
     and_from (int_le least lo) (int_le lo hi && int_le hi greatest) (test-from-le p) (and_from (int_le lo hi) (int_le hi greatest) (test-from-le q) (test-from-le r))
 
 pub ends-parts : {lo hi : ℤ} → are_ends lo hi ≡ true → (least ≤ℤ lo) × (lo ≤ℤ hi) × (hi ≤ℤ greatest)
@@ -36,7 +36,7 @@ ends-parts {lo} {hi} e =
     (le-from-test outer.0, le-from-test inner.0, le-from-test inner.1)
 
 pub own-ends : (s : Span) → are_ends s.lo s.hi ≡ true
-own-ends s = are-ends s.low s.ordered s.high
+own-ends s = are_ends-ordered s.low s.ordered s.high
 
 -- what making a span from lo and hi gives
 pub data Made (lo hi : ℤ) : Option Span → Type 0 where

@@ -21,7 +21,7 @@ LeastOf set (Some s) = LeastSpan set s
 LeastOf set None = (z : ℤ) → set z → ⊥
 
 -- some integer of a and some integer of b are so
-pub record Some-pair (a b : Span) (so : ℤ → ℤ → Type 0) : Type 0 where
+pub record SomePair (a b : Span) (so : ℤ → ℤ → Type 0) : Type 0 where
   pub x : ℤ
   pub y : ℤ
   pub in_a : Within a x
@@ -34,21 +34,21 @@ EveryPair a b so = (x y : ℤ) → Within a x → Within b y → so x y
 
 -- the results of an operation on the integers of a and b
 abbrev pub Results : Op → Span → Span → ℤ → Type 0
-Results op a b z = Some-pair a b (λ x y. z ≡ exact op x y)
+Results op a b z = SomePair a b (λ x y. z ≡ exact op x y)
 
 -- what working op on a and b answers: it warns of a trap exactly where some pair of integers traps so;
 -- with a warning the value is every integer, and without one it is the least span of the results
 pub record Worked (op : Op) (a b : Span) (r : Span × Bool × Bool) : Type 0 where
-  pub zero : Decides r.1 (Some-pair a b (λ x y. zero_trap op x y ≡ true))
-  pub range : Decides r.2 (Some-pair a b (λ x y. range_trap op x y ≡ true))
+  pub zero : Decides r.1 (SomePair a b (λ x y. zero_trap op x y ≡ true))
+  pub range : Decides r.2 (SomePair a b (λ x y. range_trap op x y ≡ true))
   pub warned : (r.1 || r.2) ≡ true → r.0 ≡ whole
   pub quiet : (r.1 || r.2) ≡ false → LeastSpan (Results op a b) r.0
 
 -- what comparing a and b gives: 1 if the relation holds for every pair of integers, 0 if for none, else 0 or 1
 pub record Judged (rel : Relation) (a b s : Span) : Type 0 where
   pub every : EveryPair a b (Related rel) → s ≡ to (pos 1) (pos 1)
-  pub none : (Some-pair a b (Related rel) → ⊥) → s ≡ to (pos 0) (pos 0)
-  pub mixed : Some-pair a b (Related rel) → Some-pair a b (λ x y. Related rel x y → ⊥) → s ≡ to (pos 0) (pos 1)
+  pub none : (SomePair a b (Related rel) → ⊥) → s ≡ to (pos 0) (pos 0)
+  pub mixed : SomePair a b (Related rel) → SomePair a b (λ x y. Related rel x y → ⊥) → s ≡ to (pos 0) (pos 1)
 
 -- so it is for the operations that compare
 abbrev pub Compared : Op → Span → Span → Span → Type 0

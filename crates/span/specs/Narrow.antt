@@ -12,7 +12,7 @@ use Rattle.span.specs.declared.Span.{Span}
 use Rattle.span.specs.Ends.{Within, are_ends, spanned}
 use Rattle.span.specs.Works.{only, narrowed}
 use Rattle.span.specs.Means.{LeastSpan, LeastOf, Left}
-use Rattle.span.specs.Made.{Made, one, none, spanned-made, are-ends}
+use Rattle.span.specs.Made.{Made, one, none, spanned-made, are_ends-ordered}
 use Rattle.span.specs.Covering.{within-lo, within-hi}
 
 -- a span that holds a set, and whose ends belong to it, is the least
@@ -30,7 +30,7 @@ least_by set lo hi low high all ends = go (spanned-made lo hi)
         (λ z h. record { from = subst (λ (l : ℤ). l ≤ℤ z) (sym p) (all z h).0; to = subst (λ (u : ℤ). z ≤ℤ u) (sym q) (all z h).1 })
         (subst set (sym p) (ends order).0)
         (subst set (sym q) (ends order).1)
-    go (none n) = λ z h. both_ways (are_ends lo hi) n (are-ends low (le_trans (all z h).0 (all z h).1) high)
+    go (none n) = λ z h. both_ways (are_ends lo hi) n (are_ends-ordered low (le_trans (all z h).0 (all z h).1) high)
 
 within : (s : Span) (z : ℤ) → s.lo ≤ℤ z → z ≤ℤ s.hi → Within s z
 within s z p q = record { from = p; to = q }

@@ -16,8 +16,8 @@ use Rattle.number.proofs.Order.{le_trans, le-or-lt, lt_not_le, fits-from-test, t
 use Rattle.span.specs.declared.Span.{Span}
 use Rattle.span.specs.Ends.{Within, are_ends, has, or_whole}
 use Rattle.span.specs.Works.{lowest, highest, cornered, ranged, warned, judged, works}
-use Rattle.span.specs.Means.{LeastSpan, LeastOf, Some-pair, Results, Worked, Compared}
-use Rattle.span.specs.Made.{Made, one, none, spanned-made, are-ends}
+use Rattle.span.specs.Means.{LeastSpan, LeastOf, SomePair, Results, Worked, Compared}
+use Rattle.span.specs.Made.{Made, one, none, spanned-made, are_ends-ordered}
 use Rattle.span.specs.Covering.{within-lo, within-hi, decides-has}
 use Rattle.span.specs.Narrow.{least_by, least-by-ends}
 use Rattle.span.specs.Compare.{or-whole-least, judged-least, judged-judged}
@@ -29,8 +29,8 @@ int32-within s z h = record { low = le_trans s.low h.from; high = le_trans h.to 
 
 -- ---- the traps
 
-pub range-trap : (op : Op) (x y : ℤ) → zero_trap op x y ≡ false → (Int32 (exact op x y) → ⊥) → range_trap op x y ≡ true
-range-trap op x y z n =
+pub range_trap-unfit : (op : Op) (x y : ℤ) → zero_trap op x y ≡ false → (Int32 (exact op x y) → ⊥) → range_trap op x y ≡ true
+range_trap-unfit op x y z n =
     and_from (not (zero_trap op x y)) (not (fits32 (exact op x y))) (not_from_false (zero_trap op x y) z)
     (not_from_false (fits32 (exact op x y)) (⊎_elim (λ t. absurd (n (fits-from-test t))) (λ f. f) (cases_Bool (fits32 (exact op x y)))))
 
@@ -87,21 +87,21 @@ surely p = (λ _. p, λ _. refl)
 -- ---- sums, differences and products
 
 module _ (op : Op) (a b : Span) (c : Cornered (exact op) a.lo a.hi b.lo b.hi) (divides-not : (x y : ℤ) → zero_trap op x y ≡ false) where
-  no_zero : Some-pair a b (λ x y. zero_trap op x y ≡ true) → ⊥
+  no_zero : SomePair a b (λ x y. zero_trap op x y ≡ true) → ⊥
   no_zero w = both_ways (zero_trap op w.x w.y) (divides-not w.x w.y) w.pair
 
   -- a result that is not of 32 bits traps
-  trapped : (z : ℤ) → Results op a b z → (Int32 z → ⊥) → Some-pair a b (λ x y. range_trap op x y ≡ true)
-  trapped z w n = record { x = w.x; y = w.y; in_a = w.in_a; in_b = w.in_b; pair = range-trap op w.x w.y (divides-not w.x w.y) (subst (λ v. Int32 v → ⊥) w.pair n) }
+  trapped : (z : ℤ) → Results op a b z → (Int32 z → ⊥) → SomePair a b (λ x y. range_trap op x y ≡ true)
+  trapped z w n = record { x = w.x; y = w.y; in_a = w.in_a; in_b = w.in_b; pair = range_trap-unfit op w.x w.y (divides-not w.x w.y) (subst (λ v. Int32 v → ⊥) w.pair n) }
 
-  outside : are_ends (lowest (exact op) a b) (highest (exact op) a b) ≡ false → Some-pair a b (λ x y. range_trap op x y ≡ true)
+  outside : are_ends (lowest (exact op) a b) (highest (exact op) a b) ≡ false → SomePair a b (λ x y. range_trap op x y ≡ true)
   outside n =
       let lo = lowest (exact op) a b in
       let hi = highest (exact op) a b in
       let ends = reached op a b in
       ⊎_elim
       (λ (low : least ≤ℤ lo). ⊎_elim
-      (λ (high : hi ≤ℤ greatest). absurd (both_ways (are_ends lo hi) n (are-ends low (bounds op a b c hi ends.1).0 high)))
+      (λ (high : hi ≤ℤ greatest). absurd (both_ways (are_ends lo hi) n (are_ends-ordered low (bounds op a b c hi ends.1).0 high)))
       (λ (past : greatest <ℤ hi). trapped hi ends.1 (λ h. lt_not_le past h.high))
       (le-or-lt hi greatest))
       (λ (past : lo <ℤ least). trapped lo ends.0 (λ h. lt_not_le past h.low))
@@ -145,7 +145,7 @@ quotient-in-range (negsuc a) (negsuc zero) h n =
 quotient-in-range (negsuc a) (negsuc (suc b)) h n = record { low = omega (arith, ints); high = omega (arith, ints, h.low, div-lt_self {n = suc a} {k = suc (suc b)} (omega arith) (omega arith)) }
 
 module _ (a b : Span) where
-  zero-decided : Decides (has b (pos 0)) (Some-pair a b (λ x y. zero_trap Div x y ≡ true))
+  zero-decided : Decides (has b (pos 0)) (SomePair a b (λ x y. zero_trap Div x y ≡ true))
   zero-decided = (
     λ t. record { x = a.lo; y = pos 0; in_a = within-lo a; in_b = (decides-has b (pos 0)).0 t; pair = refl },
     λ w. (decides-has b (pos 0)).1 (subst (Within b) (eq-from-test w.pair) w.in_b),
@@ -161,7 +161,7 @@ module _ (a b : Span) where
       (λ e. absurd (no-range-trap Div x y (quotient-in-range x y h (λ p. both_ways (eq_z x least) e (test-from-eq p.0))) t))
       (cases_Bool (eq_z x least))
 
-  range-decided : Decides (has a least && has b (negsuc 0)) (Some-pair a b (λ x y. range_trap Div x y ≡ true))
+  range-decided : Decides (has a least && has b (negsuc 0)) (SomePair a b (λ x y. range_trap Div x y ≡ true))
   range-decided = (
     λ t.
         let p = and_parts (has a least) (has b (negsuc 0)) t in
@@ -190,7 +190,7 @@ module _ (a b : Span) where
       (cornered-least Div a b (quotient-corners a.lo a.hi b.lo b.hi (one_side nz)) ends.0.low ends.1.high)
       (reached Div a b).0
 
-  quotient_by : (z r : Bool) → has b (pos 0) ≡ z → (has a least && has b (negsuc 0)) ≡ r → Decides z (Some-pair a b (λ x y. zero_trap Div x y ≡ true)) → Decides r (Some-pair a b (λ x y. range_trap Div x y ≡ true)) → Worked Div a b (warned z r (or_whole (cornered Div a b)))
+  quotient_by : (z r : Bool) → has b (pos 0) ≡ z → (has a least && has b (negsuc 0)) ≡ r → Decides z (SomePair a b (λ x y. zero_trap Div x y ≡ true)) → Decides r (SomePair a b (λ x y. range_trap Div x y ≡ true)) → Worked Div a b (warned z r (or_whole (cornered Div a b)))
   quotient_by true r e f dz dr = record { zero = dz; range = dr; warned = λ _. refl; quiet = λ t. absurd (both_ways true t refl) }
   quotient_by false true e f dz dr = record { zero = dz; range = dr; warned = λ _. refl; quiet = λ t. absurd (both_ways true t refl) }
   quotient_by false false e f dz dr = record { zero = dz; range = dr; warned = λ t. absurd (both_ways false refl t); quiet = λ _. quiet-quotient e f }
@@ -207,8 +207,8 @@ truth-fits false = record { low = omega (arith, ints); high = omega (arith, ints
 compared : (op : Op) (rel : Relation) (a b : Span) → ((x y : ℤ) → zero_trap op x y ≡ false) → ((x y : ℤ) → exact op x y ≡ truth (holds rel x y)) → Worked op a b (judged rel a b, false, false)
 compared op rel a b nz same =
     let l = judged-least rel a b in
-    let there : (z : ℤ) → Results op a b z → Some-pair a b (λ x y. z ≡ truth (holds rel x y)) = λ z w. record { x = w.x; y = w.y; in_a = w.in_a; in_b = w.in_b; pair = w.pair ∙ same w.x w.y } in
-    let back : (z : ℤ) → Some-pair a b (λ x y. z ≡ truth (holds rel x y)) → Results op a b z = λ z w. record { x = w.x; y = w.y; in_a = w.in_a; in_b = w.in_b; pair = w.pair ∙ sym (same w.x w.y) } in
+    let there : (z : ℤ) → Results op a b z → SomePair a b (λ x y. z ≡ truth (holds rel x y)) = λ z w. record { x = w.x; y = w.y; in_a = w.in_a; in_b = w.in_b; pair = w.pair ∙ same w.x w.y } in
+    let back : (z : ℤ) → SomePair a b (λ x y. z ≡ truth (holds rel x y)) → Results op a b z = λ z w. record { x = w.x; y = w.y; in_a = w.in_a; in_b = w.in_b; pair = w.pair ∙ sym (same w.x w.y) } in
     record {
       zero = never (λ w. both_ways (zero_trap op w.x w.y) (nz w.x w.y) w.pair);
       range = never (λ w. no-range-trap op w.x w.y (subst Int32 (sym (same w.x w.y)) (truth-fits (holds rel w.x w.y))) w.pair);
