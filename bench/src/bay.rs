@@ -177,7 +177,7 @@ mod tests {
     use super::*;
     use crate::span::Span;
 
-    const DAWN: &[u8] = include_bytes!("../sheets/dawn.sheet");
+    const DAWN: &[u8] = include_bytes!("../../examples/dawn.sheet");
 
     fn refused<T>(answer: Result<T, Refusal>) -> u16 {
         answer.err().map_or(0, |refusal| refusal.numbers()[0])

@@ -190,7 +190,7 @@ mod tests {
     use crate::span::Span;
     use crate::stride::Stride;
 
-    const DAWN: &[u8] = include_bytes!("../sheets/dawn.sheet");
+    const DAWN: &[u8] = include_bytes!("../../examples/dawn.sheet");
 
     fn answer<D: Domain>(bytes: &[u8]) -> [u16; 4] {
         match verdict::<D>(bytes) {
@@ -233,7 +233,7 @@ mod tests {
     #[test]
     fn dawn() {
         assert_eq!(verdict::<Span>(DAWN).map(|sheet| sheet.rows.len()).ok(), Some(5));
-        assert_eq!(answer::<Span>(include_bytes!("../sheets/dawn-at-least.sheet")), [15, 2, 0, 1]);
+        assert_eq!(answer::<Span>(include_bytes!("../../examples/dawn-at-least.sheet")), [15, 2, 0, 1]);
         assert_eq!(answer::<Stride>(DAWN), [8, 0, 0, 0]);
     }
 

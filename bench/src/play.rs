@@ -154,14 +154,14 @@ pub fn play(mut list: &[u8], capacity: usize) -> Vec<Answer> {
 mod tests {
     use super::*;
 
-    const DAWN: &[u8] = include_bytes!("../sheets/dawn.sheet");
+    const DAWN: &[u8] = include_bytes!("../../examples/dawn.sheet");
 
     #[test]
     fn verdicts() {
         assert_eq!(verdict_answer(0, DAWN).number, 5 << 8);
         assert_eq!(verdict_answer(1, DAWN).number, 8);
         assert_eq!(verdict_answer(11, DAWN).number, 255);
-        let edited = include_bytes!("../sheets/dawn-at-least.sheet");
+        let edited = include_bytes!("../../examples/dawn-at-least.sheet");
         let refused = verdict_answer(0, edited);
         assert_eq!(refused.number, 15 | 2 << 8 | 1 << 32);
         assert!(refused.agrees(refused.number));

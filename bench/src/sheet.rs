@@ -216,7 +216,7 @@ fn sized_rows(part: &[u8]) -> Result<&[[u8; ROW_BYTES]], Refusal> {
 mod tests {
     use super::*;
 
-    const DAWN: &[u8] = include_bytes!("../sheets/dawn.sheet");
+    const DAWN: &[u8] = include_bytes!("../../examples/dawn.sheet");
 
     fn refused(bytes: &[u8]) -> [u16; 4] {
         Sheet::read(bytes).err().map_or([0; 4], |refusal| refusal.numbers())
@@ -248,12 +248,12 @@ mod tests {
 
     #[test]
     fn the_examples_that_have_no_format() {
-        assert_eq!(refused(include_bytes!("../sheets/short.sheet")), [1, 0, 0, 0]);
-        assert_eq!(refused(include_bytes!("../sheets/many-variables.sheet")), [2, 1, 0, 0]);
-        assert_eq!(refused(include_bytes!("../sheets/overlap.sheet")), [3, 1, 0, 0]);
-        assert_eq!(refused(include_bytes!("../sheets/ragged-rows.sheet")), [4, 1, 0, 0]);
-        assert_eq!(refused(include_bytes!("../sheets/empty-input.sheet")), [5, 1, 0, 0]);
-        assert_eq!(refused(include_bytes!("../sheets/no-such-place.sheet")), [6, 3, 5, 0]);
+        assert_eq!(refused(include_bytes!("../../examples/short.sheet")), [1, 0, 0, 0]);
+        assert_eq!(refused(include_bytes!("../../examples/many-variables.sheet")), [2, 1, 0, 0]);
+        assert_eq!(refused(include_bytes!("../../examples/overlap.sheet")), [3, 1, 0, 0]);
+        assert_eq!(refused(include_bytes!("../../examples/ragged-rows.sheet")), [4, 1, 0, 0]);
+        assert_eq!(refused(include_bytes!("../../examples/empty-input.sheet")), [5, 1, 0, 0]);
+        assert_eq!(refused(include_bytes!("../../examples/no-such-place.sheet")), [6, 3, 5, 0]);
     }
 
     #[test]

@@ -1,4 +1,4 @@
-use Rattle.std.proofs.Common.{arith}
+use Rattle.std.proofs.Common.{◌<◌, arith}
 use Rattle.std.proofs.lemmas.Result.{err_from_is_err_and}
 use Rattle.scan.proofs.Scans.{up_next}
 use Rattle.checker.specs.Scans.{place_checked}
@@ -9,8 +9,10 @@ pub returns-in_err-check_present : goal.returns-in_err-check_present
 returns-in_err-check_present g c =
     let f = place_checked g.D.Domain.ops c.args.grid.now in
     let p = err_from_is_err_and c.from_residual.result c.from_residual.ensures.1 in
+    let places = c.args.grid.now.sheet.places in
+    let within : c.loop-place.place < places = omega (arith, c.loop-place-test.true, c.args.grid.now.some) in
     exits c.from_residual.result p.0 _ p.1 p.2 _
-    (meets-stop f c.loop-place.place _ _ c.loop-place.invariant c.in_err-check_present.ensures c.loop-place-test.true)
+    (meets-stop f c.loop-place.place places _ c.loop-place.invariant c.in_err-check_present.ensures within)
 
 pub loop-place-preserved : goal.loop-place-preserved
 loop-place-preserved g c =

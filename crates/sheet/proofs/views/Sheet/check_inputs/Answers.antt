@@ -1,3 +1,4 @@
+use Rattle.std.proofs.Common.{◌<◌, arith}
 use Rattle.std.proofs.lemmas.Result.{err_from_is_err_and}
 use Rattle.scan.specs.Scan.{passed}
 use Rattle.scan.proofs.Scans.{up_next, up-stops, passed_ok, passed-err}
@@ -10,7 +11,8 @@ returns-in_err-input c =
     let s = seen c.args.self.now in
     let p = err_from_is_err_and c.from_residual.result c.from_residual.ensures.1 in
     let stops = passed-err (input_at s c.loop-number.number) _ c.in_err-input.ensures in
-    rw (p.1, p.2) (up-stops (λ i. passed (input_at s i)) c.loop-number.number _ _ c.loop-number.invariant stops c.loop-number-test.true)
+    let within : c.loop-number.number < s.input_count = omega (arith, c.loop-number-test.true) in
+    rw (p.1, p.2) (up-stops (λ i. passed (input_at s i)) c.loop-number.number s.input_count _ c.loop-number.invariant stops within)
 
 pub loop-number-preserved : goal.loop-number-preserved
 loop-number-preserved c =
