@@ -1,4 +1,7 @@
 // Bytes in hexadecimal, two digits each.
+ghost use Rattle.std.specs.Prelude.{IfOk};
+ghost use Rattle.notation.specs.Shipped.{BytesAdded};
+
 use std::alloc::AllocError;
 use std::fmt;
 
@@ -16,11 +19,9 @@ impl fmt::Display for Hexadecimal<'_> {
 }
 
 /// Adds the bytes that the digits are; false where they are not just this many bytes.
-pub(crate) fn push_bytes(
-    digits: &str,
-    count: usize,
-    out: &mut Vec<u8>,
-) -> Result<bool, AllocError> {
+pub(crate) fn push_bytes(digits: &str, count: usize, out: &mut Vec<u8>) -> Result<bool, AllocError>
+    ensures { IfOk result (λ took. BytesAdded count out.old.items out.new.items took) }
+{
     let mut left = count;
     let mut high = None;
     for digit in digits.bytes() {

@@ -1,4 +1,7 @@
 // The domains that ship, by the names that people write.
+ghost use Rattle.std.specs.Prelude.{◌≡◌, ◌≢◌, IfOk, MatchOption};
+ghost use Rattle.notation.specs.Shipped.{name_of, width_of, Added, AddedIn};
+
 use crate::values::{Notation, parsed};
 use catalog::{
     NonzeroPair, NonzeroSpans, NonzeroSpansStrides, NonzeroStrides, Spans, Spans8, Spans9,
@@ -25,7 +28,9 @@ pub enum DomainName {
 
 impl DomainName {
     /// The domain of that name, if there is one.
-    pub fn from_name(name: &str) -> Option<DomainName> {
+    pub fn from_name(name: &str) -> Option<DomainName>
+        ensures { MatchOption result ((d : DomainName) → name.now ≢ name_of d) (λ d. name.now ≡ name_of d) }
+    {
         match name {
             "spans" => Some(DomainName::Spans),
             "strides" => Some(DomainName::Strides),
@@ -43,7 +48,9 @@ impl DomainName {
     }
 
     /// The name of the domain.
-    pub fn name(self) -> &'static str {
+    pub fn name(self) -> &'static str
+        ensures { result.now ≡ name_of self }
+    {
         match self {
             DomainName::Spans => "spans",
             DomainName::Strides => "strides",
@@ -60,7 +67,9 @@ impl DomainName {
     }
 
     /// How many bytes a cell has; 0 where the domain has none.
-    pub fn width(self) -> usize {
+    pub fn width(self) -> usize
+        ensures { result ≡ width_of self }
+    {
         match self {
             DomainName::Spans => Spans::width(),
             DomainName::Strides => Strides::width(),
@@ -77,7 +86,9 @@ impl DomainName {
     }
 
     /// Adds the cell of the value that the word is; false where it is no value.
-    pub fn push_value(self, word: &str, out: &mut Vec<u8>) -> Result<bool, AllocError> {
+    pub fn push_value(self, word: &str, out: &mut Vec<u8>) -> Result<bool, AllocError>
+        ensures { IfOk result (λ took. AddedIn self out.old.items out.new.items took) }
+    {
         match self {
             DomainName::Spans => push_value::<Spans>(word, out),
             DomainName::Strides => push_value::<Strides>(word, out),
@@ -94,7 +105,10 @@ impl DomainName {
     }
 }
 
-fn push_value<D: Notation>(word: &str, out: &mut Vec<u8>) -> Result<bool, AllocError> {
+// The same in a domain.
+fn push_value<D: Notation>(word: &str, out: &mut Vec<u8>) -> Result<bool, AllocError>
+    ensures { IfOk result (λ took. Added D.Notation.cell out.old.items out.new.items took) }
+{
     // In the text of a sheet a number has no plus sign.
     if word.contains('+') {
         return Ok(false);
