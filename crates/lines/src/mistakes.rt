@@ -1,4 +1,7 @@
 // Mistakes in a text, and how they are told.
+ghost use Rattle.std.specs.Prelude.{◌≡◌};
+ghost use Rattle.lines.specs.declared.mistakes.Reason.TheVariants.{Memory};
+
 use sheet::Refusal;
 use std::alloc::{AllocError, AllocFailed};
 use std::fmt;
@@ -58,12 +61,16 @@ pub struct Mistake {
 }
 
 impl From<AllocError> for Reason {
+    ghost from_gives = { λ _ r. r ≡ Memory };
+
     fn from(_e: AllocError) -> Reason {
         Reason::Memory
     }
 }
 
 impl<T: Drop> From<AllocFailed<T>> for Reason {
+    ghost from_gives = { λ _ r. r ≡ Memory };
+
     fn from(_e: AllocFailed<T>) -> Reason {
         Reason::Memory
     }

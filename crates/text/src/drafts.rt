@@ -1,7 +1,7 @@
 // A sheet in the making, line by line.
-ghost use Rattle.std.specs.Prelude.{◌≡◌, IfOk};
+ghost use Rattle.std.specs.Prelude.{◌≡◌, ◌⊎◌, true, IfOk, IfErr, OnOk, OnErr};
 ghost use Rattle.widening.specs.Widened.{sheet_bytes};
-ghost use Rattle.text.specs.Drafts.{drafted, IsSheet};
+ghost use Rattle.text.specs.Drafts.{drafted, IsSheet, nothing, NoneCounted, OneMore, SameInputs, SameRows, KeepsVariables, Grows, AddsNothing};
 
 use crate::entries::{cells_of, push_entry};
 use lines::{Counts, Mistake, Reason, input_of, numbered, row_of, words_of};
@@ -50,7 +50,10 @@ pub struct Draft {
 
 impl Draft {
     /// A draft of which no line is known.
-    pub fn new(heap: Global) -> Draft {
+    pub fn new(heap: Global) -> Draft
+        ensures holds { drafted result ≡ nothing }
+        ensures counts { NoneCounted result }
+    {
         Draft {
             heap,
             lines: 0,
@@ -65,7 +68,9 @@ impl Draft {
     }
 
     // What is wrong with its line: that of a row that goes to no place, else the last.
-    fn mistake(&self, reason: Reason) -> Mistake {
+    fn mistake(&self, reason: Reason) -> Mistake
+        ensures reason { result.reason ≡ reason }
+    {
         let line = match reason {
             Reason::PlaceMissing { row, .. } => match self.row_lines.get(row) {
                 Some(line) => *line,
@@ -77,7 +82,11 @@ impl Draft {
     }
 
     /// Takes the next line in.
-    pub fn line(&mut self, text: &str) -> Result<(), Mistake> {
+    pub fn line(&mut self, text: &str) -> Result<(), Mistake>
+        ensures grows { Grows self.old self.new }
+        ensures keeps { KeepsVariables self.old self.new }
+        ensures refused { IfErr result (λ m. AddsNothing self.old self.new m.reason) }
+    {
         self.lines = self.lines.saturating_add(1);
         match self.take_in(text) {
             Ok(()) => Ok(()),
@@ -120,7 +129,11 @@ impl Draft {
         }
     }
 
-    fn take_in(&mut self, text: &str) -> Result<(), Reason> {
+    fn take_in(&mut self, text: &str) -> Result<(), Reason>
+        ensures grows { Grows self.old self.new }
+        ensures keeps { KeepsVariables self.old self.new }
+        ensures refused { IfErr result (λ r. AddsNothing self.old self.new r) }
+    {
         let words = words_of(self.heap, text)?;
         let [first, rest @ ..] = words.as_slice() else {
             return Ok(());
@@ -134,7 +147,11 @@ impl Draft {
         }
     }
 
-    fn variables_line(&mut self, words: &[&str]) -> Result<(), Reason> {
+    fn variables_line(&mut self, words: &[&str]) -> Result<(), Reason>
+        ensures inputs { SameInputs self.old self.new }
+        ensures rows { SameRows self.old self.new }
+        ensures keeps { KeepsVariables self.old self.new }
+    {
         let Stage::Start = self.stage else {
             return Err(Reason::VariablesTwice);
         };
@@ -150,7 +167,12 @@ impl Draft {
         Ok(())
     }
 
-    fn input_line(&mut self, words: &[&str]) -> Result<(), Reason> {
+    fn input_line(&mut self, words: &[&str]) -> Result<(), Reason>
+        ensures taken { OnOk result (OneMore self.old.inputs.items self.new.inputs.items) }
+        ensures refused { OnErr result (SameInputs self.old self.new) }
+        ensures rows { SameRows self.old self.new }
+        ensures keeps { KeepsVariables self.old self.new }
+    {
         match self.stage {
             Stage::Start => return Err(Reason::VariablesFirst),
             Stage::Inputs => {}
@@ -170,7 +192,12 @@ impl Draft {
         Ok(())
     }
 
-    fn row_line(&mut self, place: &str, words: &[&str]) -> Result<(), Reason> {
+    fn row_line(&mut self, place: &str, words: &[&str]) -> Result<(), Reason>
+        ensures inputs { SameInputs self.old self.new }
+        ensures rows { SameRows self.old self.new ⊎ OneMore self.old.rows.items self.new.rows.items }
+        ensures refused { IfErr result (λ r. AddsNothing self.old self.new r) }
+        ensures keeps { KeepsVariables self.old self.new }
+    {
         let place = numbered(place).ok_or(Reason::UnknownLine)?;
         match self.stage {
             Stage::Start => return Err(Reason::VariablesFirst),
@@ -193,7 +220,11 @@ impl Draft {
         Ok(())
     }
 
-    fn table_line(&mut self, words: &[&str]) -> Result<(), Reason> {
+    fn table_line(&mut self, words: &[&str]) -> Result<(), Reason>
+        ensures inputs { SameInputs self.old self.new }
+        ensures rows { SameRows self.old self.new }
+        ensures keeps { KeepsVariables self.old self.new }
+    {
         match self.stage {
             Stage::Start => return Err(Reason::VariablesFirst),
             Stage::Inputs => return Err(Reason::TableEarly),
@@ -215,7 +246,11 @@ impl Draft {
         Ok(())
     }
 
-    fn entry_line(&mut self, words: &[&str]) -> Result<(), Reason> {
+    fn entry_line(&mut self, words: &[&str]) -> Result<(), Reason>
+        ensures inputs { SameInputs self.old self.new }
+        ensures rows { SameRows self.old self.new }
+        ensures keeps { KeepsVariables self.old self.new }
+    {
         let Stage::Table(cells) = self.stage else {
             return Err(Reason::EntriesEarly);
         };
