@@ -1,5 +1,5 @@
 -- What a draft comes to, and what a line does to it. Assumes nothing.
-use Rattle.std.specs.Prelude.{◌≡◌, ℕ, Bool, true, false, List, [], ◌∷◌, ◌++◌, vec_items}
+use Rattle.std.specs.Prelude.{◌≡◌, ◌≤◌, ℕ, All, Bool, true, false, List, [], ◌∷◌, ◌++◌, vec_items}
 use Rattle.lines.specs.declared.mistakes.Reason.{Reason}
 use Rattle.lines.specs.declared.mistakes.Reason.TheVariants.{Memory}
 use Rattle.sheet.specs.Format.{WellFormed}
@@ -55,3 +55,15 @@ pub data Grows (old new : Draft) : Type 0 where
 -- the same inputs, and the same rows unless the memory ran out
 abbrev pub AddsNothing : Draft → Draft → Reason → Type 0
 AddsNothing old new reason = SameInputs old new × ((reason ≡ Memory → ⊥) → SameRows old new)
+
+-- the number of a line, where so many are counted
+abbrev pub IsLine : ℕ → ℕ → Type 0
+IsLine count n = (1 ≤ n) × (n ≤ count)
+
+-- each row is from a line that is counted
+abbrev pub IsNumbered : Draft → Type 0
+IsNumbered d = All (IsLine d.lines) (vec_items d.row_lines)
+
+-- the count of lines, and the lines that the rows are from
+abbrev pub SameLines : Draft → Draft → Type 0
+SameLines old new = (new.lines ≡ old.lines) × (vec_items new.row_lines ≡ vec_items old.row_lines)

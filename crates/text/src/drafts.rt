@@ -1,7 +1,7 @@
 // A sheet in the making, line by line.
-ghost use Rattle.std.specs.Prelude.{◌≡◌, ◌⊎◌, true, IfOk, IfErr, OnOk, OnErr};
+ghost use Rattle.std.specs.Prelude.{◌≡◌, ◌≤◌, ◌+◌, ◌-◌, ◌^◌, ◌⊎◌, true, min, IfOk, IfErr, OnOk, OnErr};
 ghost use Rattle.widening.specs.Widened.{sheet_bytes};
-ghost use Rattle.text.specs.Drafts.{drafted, IsSheet, nothing, NoneCounted, OneMore, SameInputs, SameRows, KeepsVariables, Grows, AddsNothing};
+ghost use Rattle.text.specs.Drafts.{drafted, IsSheet, nothing, NoneCounted, OneMore, SameInputs, SameRows, KeepsVariables, Grows, AddsNothing, IsLine, IsNumbered, SameLines};
 
 use crate::entries::{cells_of, push_entry};
 use lines::{Counts, Mistake, Reason, input_of, numbered, row_of, words_of};
@@ -53,6 +53,7 @@ impl Draft {
     pub fn new(heap: Global) -> Draft
         ensures holds { drafted result ≡ nothing }
         ensures counts { NoneCounted result }
+        ensures numbered { IsNumbered result }
     {
         Draft {
             heap,
@@ -70,6 +71,7 @@ impl Draft {
     // What is wrong with its line: that of a row that goes to no place, else the last.
     fn mistake(&self, reason: Reason) -> Mistake
         ensures reason { result.reason ≡ reason }
+        ensures line { 1 ≤ self.now.lines → IsNumbered self.now → IsLine self.now.lines result.line }
     {
         let line = match reason {
             Reason::PlaceMissing { row, .. } => match self.row_lines.get(row) {
@@ -86,6 +88,9 @@ impl Draft {
         ensures grows { Grows self.old self.new }
         ensures keeps { KeepsVariables self.old self.new }
         ensures refused { IfErr result (λ m. AddsNothing self.old self.new m.reason) }
+        ensures counted { self.new.lines ≡ min (self.old.lines + 1) (2 ^ 64 - 1) }
+        ensures numbered { IsNumbered self.old → IsNumbered self.new }
+        ensures named { IsNumbered self.old → IfErr result (λ m. IsLine self.new.lines m.line) }
     {
         self.lines = self.lines.saturating_add(1);
         match self.take_in(text) {
@@ -130,9 +135,12 @@ impl Draft {
     }
 
     fn take_in(&mut self, text: &str) -> Result<(), Reason>
+        requires { 1 ≤ self.old.lines }
         ensures grows { Grows self.old self.new }
         ensures keeps { KeepsVariables self.old self.new }
         ensures refused { IfErr result (λ r. AddsNothing self.old self.new r) }
+        ensures lines { self.new.lines ≡ self.old.lines }
+        ensures numbered { IsNumbered self.old → IsNumbered self.new }
     {
         let words = words_of(self.heap, text)?;
         let [first, rest @ ..] = words.as_slice() else {
@@ -151,6 +159,7 @@ impl Draft {
         ensures inputs { SameInputs self.old self.new }
         ensures rows { SameRows self.old self.new }
         ensures keeps { KeepsVariables self.old self.new }
+        ensures lines { SameLines self.old self.new }
     {
         let Stage::Start = self.stage else {
             return Err(Reason::VariablesTwice);
@@ -172,6 +181,7 @@ impl Draft {
         ensures refused { OnErr result (SameInputs self.old self.new) }
         ensures rows { SameRows self.old self.new }
         ensures keeps { KeepsVariables self.old self.new }
+        ensures lines { SameLines self.old self.new }
     {
         match self.stage {
             Stage::Start => return Err(Reason::VariablesFirst),
@@ -193,9 +203,12 @@ impl Draft {
     }
 
     fn row_line(&mut self, place: &str, words: &[&str]) -> Result<(), Reason>
+        requires { 1 ≤ self.old.lines }
         ensures inputs { SameInputs self.old self.new }
         ensures rows { SameRows self.old self.new ⊎ OneMore self.old.rows.items self.new.rows.items }
         ensures refused { IfErr result (λ r. AddsNothing self.old self.new r) }
+        ensures lines { self.new.lines ≡ self.old.lines }
+        ensures numbered { IsNumbered self.old → IsNumbered self.new }
         ensures keeps { KeepsVariables self.old self.new }
     {
         let place = numbered(place).ok_or(Reason::UnknownLine)?;
@@ -224,6 +237,7 @@ impl Draft {
         ensures inputs { SameInputs self.old self.new }
         ensures rows { SameRows self.old self.new }
         ensures keeps { KeepsVariables self.old self.new }
+        ensures lines { SameLines self.old self.new }
     {
         match self.stage {
             Stage::Start => return Err(Reason::VariablesFirst),
@@ -250,6 +264,7 @@ impl Draft {
         ensures inputs { SameInputs self.old self.new }
         ensures rows { SameRows self.old self.new }
         ensures keeps { KeepsVariables self.old self.new }
+        ensures lines { SameLines self.old self.new }
     {
         let Stage::Table(cells) = self.stage else {
             return Err(Reason::EntriesEarly);
