@@ -1,5 +1,6 @@
 -- What a draft comes to, and what a line does to it. Assumes nothing.
-use Rattle.std.specs.Prelude.{◌≡◌, ◌≤◌, ℕ, All, Bool, true, false, List, [], ◌∷◌, ◌++◌, vec_items}
+use Rattle.lines.specs.Known.{Known}
+use Rattle.std.specs.Prelude.{◌≡◌, ◌≤◌, ◌≤ℤ◌, ◌+◌, length, ℕ, All, Bool, true, false, List, [], ◌∷◌, ◌++◌, vec_items}
 use Rattle.lines.specs.declared.mistakes.Reason.{Reason}
 use Rattle.lines.specs.declared.mistakes.Reason.TheVariants.{Memory}
 use Rattle.sheet.specs.Format.{WellFormed}
@@ -32,9 +33,17 @@ begun Inputs = true
 begun Rows = true
 begun (Table cells) = true
 
--- the second list is the first with one more behind it
-abbrev pub OneMore : {A : Type 0} → List A → List A → Type 0
-OneMore {A} old new = (x : A) × (new ≡ old ++ x ∷ [])
+-- the second list is the first with one more behind it, of which P holds
+abbrev pub OneMore : {A : Type 0} → (A → Type 0) → List A → List A → Type 0
+OneMore {A} P old new = (x : A) × P x × (new ≡ old ++ x ∷ [])
+
+-- one input more, whose set is not empty
+abbrev pub OneInput : Draft → Draft → Type 0
+OneInput old new = OneMore (λ i. i.lo ≤ℤ i.hi) (vec_items old.inputs) (vec_items new.inputs)
+
+-- one row more, which names only variables and inputs that there are
+abbrev pub OneRow : Draft → Draft → Type 0
+OneRow old new = OneMore (Known old.variables (length (vec_items old.inputs))) (vec_items old.rows) (vec_items new.rows)
 
 abbrev pub SameInputs : Draft → Draft → Type 0
 SameInputs old new = vec_items new.inputs ≡ vec_items old.inputs
@@ -46,15 +55,19 @@ SameRows old new = vec_items new.rows ≡ vec_items old.rows
 abbrev pub KeepsVariables : Draft → Draft → Type 0
 KeepsVariables old new = begun old.stage ≡ true → (begun new.stage ≡ true) × (new.variables ≡ old.variables)
 
--- at most one input or one row more, behind those of before
-pub data Grows (old new : Draft) : Type 0 where
-  nothing_more : SameInputs old new → SameRows old new → Grows old new
-  input_more : OneMore (vec_items old.inputs) (vec_items new.inputs) → SameRows old new → Grows old new
-  row_more : SameInputs old new → OneMore (vec_items old.rows) (vec_items new.rows) → Grows old new
+abbrev pub SameEntries : Draft → Draft → Type 0
+SameEntries old new = new.entries ≡ old.entries
 
--- the same inputs, and the same rows unless the memory ran out
+-- at most one input, one row or one entry more, behind those of before; none before the variables are counted
+pub data Grows (old new : Draft) : Type 0 where
+  nothing_more : SameInputs old new → SameRows old new → SameEntries old new → Grows old new
+  input_more : begun old.stage ≡ true → OneInput old new → SameRows old new → SameEntries old new → Grows old new
+  row_more : begun old.stage ≡ true → SameInputs old new → OneRow old new → SameEntries old new → Grows old new
+  entry_more : begun old.stage ≡ true → SameInputs old new → SameRows old new → new.entries ≡ old.entries + 1 → Grows old new
+
+-- the same inputs and as many entries, and the same rows unless the memory ran out
 abbrev pub AddsNothing : Draft → Draft → Reason → Type 0
-AddsNothing old new reason = SameInputs old new × ((reason ≡ Memory → ⊥) → SameRows old new)
+AddsNothing old new reason = SameInputs old new × SameEntries old new × ((reason ≡ Memory → ⊥) → SameRows old new)
 
 -- the number of a line, where so many are counted
 abbrev pub IsLine : ℕ → ℕ → Type 0

@@ -1,7 +1,7 @@
 // A sheet in the making, line by line.
 ghost use Rattle.std.specs.Prelude.{◌≡◌, ◌≤◌, ◌+◌, ◌-◌, ◌^◌, ◌⊎◌, true, min, IfOk, IfErr, OnOk, OnErr};
 ghost use Rattle.widening.specs.Widened.{sheet_bytes};
-ghost use Rattle.text.specs.Drafts.{drafted, IsSheet, nothing, NoneCounted, OneMore, SameInputs, SameRows, KeepsVariables, Grows, AddsNothing, IsLine, IsNumbered, SameLines};
+ghost use Rattle.text.specs.Drafts.{drafted, IsSheet, nothing, NoneCounted, OneInput, OneRow, SameEntries, begun, SameInputs, SameRows, KeepsVariables, Grows, AddsNothing, IsLine, IsNumbered, SameLines};
 
 use crate::entries::{cells_of, push_entry};
 use lines::{Counts, Mistake, Reason, input_of, numbered, row_of, words_of};
@@ -159,6 +159,7 @@ impl Draft {
         ensures inputs { SameInputs self.old self.new }
         ensures rows { SameRows self.old self.new }
         ensures keeps { KeepsVariables self.old self.new }
+        ensures entries { SameEntries self.old self.new }
         ensures lines { SameLines self.old self.new }
     {
         let Stage::Start = self.stage else {
@@ -177,10 +178,11 @@ impl Draft {
     }
 
     fn input_line(&mut self, words: &[&str]) -> Result<(), Reason>
-        ensures taken { OnOk result (OneMore self.old.inputs.items self.new.inputs.items) }
+        ensures taken { OnOk result ((begun self.old.stage ≡ true) × OneInput self.old self.new) }
         ensures refused { OnErr result (SameInputs self.old self.new) }
         ensures rows { SameRows self.old self.new }
         ensures keeps { KeepsVariables self.old self.new }
+        ensures entries { SameEntries self.old self.new }
         ensures lines { SameLines self.old self.new }
     {
         match self.stage {
@@ -205,7 +207,9 @@ impl Draft {
     fn row_line(&mut self, place: &str, words: &[&str]) -> Result<(), Reason>
         requires { 1 ≤ self.old.lines }
         ensures inputs { SameInputs self.old self.new }
-        ensures rows { SameRows self.old self.new ⊎ OneMore self.old.rows.items self.new.rows.items }
+        ensures rows { SameRows self.old self.new
+            ⊎ ((begun self.old.stage ≡ true) × OneRow self.old self.new) }
+        ensures entries { SameEntries self.old self.new }
         ensures refused { IfErr result (λ r. AddsNothing self.old self.new r) }
         ensures lines { self.new.lines ≡ self.old.lines }
         ensures numbered { IsNumbered self.old → IsNumbered self.new }
@@ -237,6 +241,7 @@ impl Draft {
         ensures inputs { SameInputs self.old self.new }
         ensures rows { SameRows self.old self.new }
         ensures keeps { KeepsVariables self.old self.new }
+        ensures entries { SameEntries self.old self.new }
         ensures lines { SameLines self.old self.new }
     {
         match self.stage {
@@ -264,6 +269,9 @@ impl Draft {
         ensures inputs { SameInputs self.old self.new }
         ensures rows { SameRows self.old self.new }
         ensures keeps { KeepsVariables self.old self.new }
+        ensures taken { OnOk result
+            ((begun self.old.stage ≡ true) × (self.new.entries ≡ self.old.entries + 1)) }
+        ensures refused { OnErr result (SameEntries self.old self.new) }
         ensures lines { SameLines self.old self.new }
     {
         let Stage::Table(cells) = self.stage else {
