@@ -1,6 +1,6 @@
 -- What a draft comes to, and what a line does to it. Assumes nothing.
+use Rattle.std.specs.Prelude.{◌≡◌, ℕ, ◌+◌, ◌≤◌, ◌⊎◌, Bool, true, false, List, [], ◌∷◌, ◌++◌, length, All, ◌≤ℤ◌, vec_items}
 use Rattle.lines.specs.Known.{Known}
-use Rattle.std.specs.Prelude.{◌≡◌, ◌≤◌, ◌≤ℤ◌, ◌+◌, length, ℕ, All, Bool, true, false, List, [], ◌∷◌, ◌++◌, vec_items}
 use Rattle.lines.specs.declared.mistakes.Reason.{Reason}
 use Rattle.lines.specs.declared.mistakes.Reason.TheVariants.{Memory}
 use Rattle.sheet.specs.Format.{WellFormed}
@@ -22,16 +22,16 @@ IsSheet bs = (s : Parts) × WellFormed bs s
 abbrev pub nothing : Parts
 nothing = laid_out 0 [] [] []
 
--- neither a line nor an entry is counted
-abbrev pub NoneCounted : Draft → Type 0
-NoneCounted d = (d.lines ≡ 0) × (d.entries ≡ 0)
-
 -- whether the variables are counted
 abbrev pub begun : Stage → Bool
 begun Start = false
 begun Inputs = true
 begun Rows = true
 begun (Table cells) = true
+
+-- neither the variables nor a line nor an entry is counted
+abbrev pub NoneCounted : Draft → Type 0
+NoneCounted d = (begun d.stage ≡ false) × (d.lines ≡ 0) × (d.entries ≡ 0)
 
 -- the second list is the first with one more behind it, of which P holds
 abbrev pub OneMore : {A : Type 0} → (A → Type 0) → List A → List A → Type 0
@@ -57,6 +57,11 @@ KeepsVariables old new = begun old.stage ≡ true → (begun new.stage ≡ true)
 
 abbrev pub SameEntries : Draft → Draft → Type 0
 SameEntries old new = new.entries ≡ old.entries
+
+-- where the variables are not counted before, there are as many as before, or they are counted now, and are 1 to 16
+abbrev pub CountsVariables : Draft → Draft → Type 0
+CountsVariables old new = begun old.stage ≡ false
+    → (new.variables ≡ old.variables) ⊎ ((begun new.stage ≡ true) × (1 ≤ new.variables) × (new.variables ≤ 16))
 
 -- at most one input, one row or one entry more, behind those of before; none before the variables are counted
 pub data Grows (old new : Draft) : Type 0 where

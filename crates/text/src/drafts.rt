@@ -1,7 +1,7 @@
 // A sheet in the making, line by line.
 ghost use Rattle.std.specs.Prelude.{◌≡◌, ◌≤◌, ◌+◌, ◌-◌, ◌^◌, ◌⊎◌, true, min, IfOk, IfErr, OnOk, OnErr};
 ghost use Rattle.widening.specs.Widened.{sheet_bytes};
-ghost use Rattle.text.specs.Drafts.{drafted, IsSheet, nothing, NoneCounted, OneInput, OneRow, SameEntries, begun, SameInputs, SameRows, KeepsVariables, Grows, AddsNothing, IsLine, IsNumbered, SameLines};
+ghost use Rattle.text.specs.Drafts.{drafted, IsSheet, nothing, NoneCounted, OneInput, OneRow, SameEntries, begun, SameInputs, SameRows, KeepsVariables, Grows, AddsNothing, CountsVariables, IsLine, IsNumbered, SameLines};
 
 use crate::entries::{cells_of, push_entry};
 use lines::{Counts, Mistake, Reason, input_of, numbered, row_of, words_of};
@@ -87,6 +87,7 @@ impl Draft {
     pub fn line(&mut self, text: &str) -> Result<(), Mistake>
         ensures grows { Grows self.old self.new }
         ensures keeps { KeepsVariables self.old self.new }
+        ensures variables { CountsVariables self.old self.new }
         ensures refused { IfErr result (λ m. AddsNothing self.old self.new m.reason) }
         ensures counted { self.new.lines ≡ min (self.old.lines + 1) (2 ^ 64 - 1) }
         ensures numbered { IsNumbered self.old → IsNumbered self.new }
@@ -138,6 +139,7 @@ impl Draft {
         requires { 1 ≤ self.old.lines }
         ensures grows { Grows self.old self.new }
         ensures keeps { KeepsVariables self.old self.new }
+        ensures variables { CountsVariables self.old self.new }
         ensures refused { IfErr result (λ r. AddsNothing self.old self.new r) }
         ensures lines { self.new.lines ≡ self.old.lines }
         ensures numbered { IsNumbered self.old → IsNumbered self.new }
@@ -159,6 +161,7 @@ impl Draft {
         ensures inputs { SameInputs self.old self.new }
         ensures rows { SameRows self.old self.new }
         ensures keeps { KeepsVariables self.old self.new }
+        ensures variables { CountsVariables self.old self.new }
         ensures entries { SameEntries self.old self.new }
         ensures lines { SameLines self.old self.new }
     {
@@ -182,6 +185,7 @@ impl Draft {
         ensures refused { OnErr result (SameInputs self.old self.new) }
         ensures rows { SameRows self.old self.new }
         ensures keeps { KeepsVariables self.old self.new }
+        ensures variables { CountsVariables self.old self.new }
         ensures entries { SameEntries self.old self.new }
         ensures lines { SameLines self.old self.new }
     {
@@ -214,6 +218,7 @@ impl Draft {
         ensures lines { self.new.lines ≡ self.old.lines }
         ensures numbered { IsNumbered self.old → IsNumbered self.new }
         ensures keeps { KeepsVariables self.old self.new }
+        ensures variables { CountsVariables self.old self.new }
     {
         let place = numbered(place).ok_or(Reason::UnknownLine)?;
         match self.stage {
@@ -241,6 +246,7 @@ impl Draft {
         ensures inputs { SameInputs self.old self.new }
         ensures rows { SameRows self.old self.new }
         ensures keeps { KeepsVariables self.old self.new }
+        ensures variables { CountsVariables self.old self.new }
         ensures entries { SameEntries self.old self.new }
         ensures lines { SameLines self.old self.new }
     {
@@ -269,6 +275,7 @@ impl Draft {
         ensures inputs { SameInputs self.old self.new }
         ensures rows { SameRows self.old self.new }
         ensures keeps { KeepsVariables self.old self.new }
+        ensures variables { CountsVariables self.old self.new }
         ensures taken { OnOk result
             ((begun self.old.stage ≡ true) × (self.new.entries ≡ self.old.entries + 1)) }
         ensures refused { OnErr result (SameEntries self.old self.new) }
