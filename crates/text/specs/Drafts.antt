@@ -1,8 +1,8 @@
 -- What a draft comes to, and what a line does to it. Assumes nothing.
-use Rattle.std.specs.Prelude.{◌≡◌, ℕ, ◌+◌, ◌≤◌, ◌⊎◌, Bool, true, false, List, [], ◌∷◌, ◌++◌, length, All, ◌≤ℤ◌, vec_items}
+use Rattle.std.specs.Prelude.{◌≡◌, ℕ, ◌+◌, ◌≤◌, ◌⊎◌, Bool, true, false, List, [], ◌∷◌, ◌++◌, length, slice_index_or, All, ◌≤ℤ◌, vec_items}
 use Rattle.lines.specs.Known.{Known}
 use Rattle.lines.specs.declared.mistakes.Reason.{Reason}
-use Rattle.lines.specs.declared.mistakes.Reason.TheVariants.{Memory}
+use Rattle.lines.specs.declared.mistakes.Reason.TheVariants.{PlaceMissing, Memory}
 use Rattle.sheet.specs.Format.{WellFormed}
 use Rattle.sheet.specs.Parts.{Parts}
 use Rattle.writing.specs.Laid.{laid_out}
@@ -85,3 +85,8 @@ IsNumbered d = All (IsLine d.lines) (vec_items d.row_lines)
 -- the count of lines, and the lines that the rows are from
 abbrev pub SameLines : Draft → Draft → Type 0
 SameLines old new = (new.lines ≡ old.lines) × (vec_items new.row_lines ≡ vec_items old.row_lines)
+
+-- the line that a mistake is told with: that of the row that goes to no place, else the last one
+abbrev pub IsToldLine : Draft → Reason → ℕ → Type 0
+IsToldLine d reason n = ((k count : ℕ) → reason ≡ PlaceMissing k count → n ≡ slice_index_or (vec_items d.row_lines) k d.lines)
+    × (((k count : ℕ) → reason ≡ PlaceMissing k count → ⊥) → n ≡ d.lines)

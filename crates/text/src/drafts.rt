@@ -1,7 +1,7 @@
 // A sheet in the making, line by line.
 ghost use Rattle.std.specs.Prelude.{◌≡◌, ◌≤◌, ◌+◌, ◌-◌, ◌^◌, ◌⊎◌, true, min, IfOk, IfErr, OnOk, OnErr};
 ghost use Rattle.widening.specs.Widened.{sheet_bytes};
-ghost use Rattle.text.specs.Drafts.{drafted, IsSheet, nothing, NoneCounted, OneInput, OneRow, SameEntries, begun, SameInputs, SameRows, KeepsVariables, Grows, AddsNothing, CountsVariables, IsLine, IsNumbered, SameLines};
+ghost use Rattle.text.specs.Drafts.{drafted, IsSheet, nothing, NoneCounted, OneInput, OneRow, SameEntries, begun, SameInputs, SameRows, KeepsVariables, Grows, AddsNothing, CountsVariables, IsLine, IsToldLine, IsNumbered, SameLines};
 
 use crate::entries::{cells_of, push_entry};
 use lines::{Counts, Mistake, Reason, input_of, numbered, row_of, words_of};
@@ -72,6 +72,7 @@ impl Draft {
     fn mistake(&self, reason: Reason) -> Mistake
         ensures reason { result.reason ≡ reason }
         ensures line { 1 ≤ self.now.lines → IsNumbered self.now → IsLine self.now.lines result.line }
+        ensures told { 1 ≤ self.now.lines → IsToldLine self.now result.reason result.line }
     {
         let line = match reason {
             Reason::PlaceMissing { row, .. } => match self.row_lines.get(row) {
@@ -92,6 +93,7 @@ impl Draft {
         ensures counted { self.new.lines ≡ min (self.old.lines + 1) (2 ^ 64 - 1) }
         ensures numbered { IsNumbered self.old → IsNumbered self.new }
         ensures named { IsNumbered self.old → IfErr result (λ m. IsLine self.new.lines m.line) }
+        ensures told { IfErr result (λ m. IsToldLine self.new m.reason m.line) }
     {
         self.lines = self.lines.saturating_add(1);
         match self.take_in(text) {
