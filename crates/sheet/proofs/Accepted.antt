@@ -23,6 +23,8 @@ use Rattle.sheet.specs.Inputs.{input_of, input_at, inputs_right}
 use Rattle.sheet.specs.Parts.{Region, Parts, end_of, offset_of, length_of, part_of, head_right, head_byte, size_right, sizes_right, parts_of}
 use Rattle.sheet.specs.Rows.{row_of, row_at, rows_right}
 use Rattle.sheet.specs.Sheets.{Fits, sheet_of}
+use Rattle.sheet.specs.declared.parts.PartName.{PartName}
+use Rattle.sheet.specs.declared.parts.PartName.TheVariants.{Inputs, Rows, Table}
 use Rattle.sheet.specs.declared.refusals.Refusal.{Refusal}
 use Rattle.sheet.specs.declared.refusals.Refusal.TheVariants.{SheetSize, HeadByte, PartExtent, PartSize, InputRecord}
 use Rattle.sheet.proofs.Formed.{formed-of}
@@ -112,7 +114,7 @@ region-is : (bs : List ℕ) (p : Region) (o l : ℕ) → o ≡ p.at → l ≡ le
     → ◌≡◌ {A = Region} (record { at = o; bytes = take l (drop o bs) }) p
 region-is bs p o l eo el held = rw (eo, el) (λ i. record { at = p.at; bytes = sym held i })
 
-part-laid : (bs : List ℕ) (i before : ℕ) (p : Region) → Given bs i p → before ≤ p.at → end_of p ≤ length bs → Held bs p → part_of bs i before ≡ Ok p
+part-laid : (bs : List ℕ) (i : PartName) (before : ℕ) (p : Region) → Given bs i p → before ≤ p.at → end_of p ≤ length bs → Held bs p → part_of bs i before ≡ Ok p
 part-laid bs i before p given behind ends held =
     let a : leb before (offset_of bs i) ≡ true = le-leb _ _ (omega (arith, given.0)) in
     let b : leb (offset_of bs i + length_of bs i) (length bs) ≡ true = le-leb _ _ (omega (arith, given.0, given.1)) in
@@ -136,7 +138,7 @@ sizes-laid bs s k f =
     let a : eqb (length s.inputs.bytes) (9 * get_or bs 2 0) ≡ true = eq-eqb _ _ (omega (arith, k, f.inputs)) in
     let b : eqb (length s.rows.bytes % 12) 0 ≡ true = eq-eqb _ _ (omega (arith, f.rows)) in
     let c = between-test 12 (length s.rows.bytes) 3072 (omega (arith, f.rows, f.some_place)) (omega (arith, f.rows, f.places)) in
-    then-on (unless (eqb (length s.inputs.bytes) (9 * get_or bs 2 0)) (PartSize 0)) _ tt _ (passes _ _ a) (passes _ _ (and_from _ _ b c))
+    then-on (unless (eqb (length s.inputs.bytes) (9 * get_or bs 2 0)) (PartSize Inputs)) _ tt _ (passes _ _ a) (passes _ _ (and_from _ _ b c))
 
 -- the layout that the head gives
 layout-read : (bs : List ℕ) (s : Parts) → Headed bs s → InOrder bs s → Fits s → parts_of bs ≡ Ok s
@@ -162,9 +164,9 @@ layout-read bs s h o f =
     } in
     then-on (size_right bs) _ tt _ (passes _ SheetSize (between-test 28 (length bs) 1048576 h.least h.most))
     (then-on (head_right bs) _ tt _ (head-laid bs s h f)
-    (then-on (part_of bs 0 28) _ s.inputs _ (part-laid bs 0 28 s.inputs h.inputs_given o.behind_head end₀ o.inputs_held)
-    (then-on (part_of bs 1 (end_of s.inputs)) _ s.rows _ (part-laid bs 1 (end_of s.inputs) s.rows h.rows_given o.inputs_first end₁ o.rows_held)
-    (then-on (part_of bs 2 (end_of s.rows)) _ s.table _ (part-laid bs 2 (end_of s.rows) s.table h.table_given o.rows_next o.inside o.table_held)
+    (then-on (part_of bs Inputs 28) _ s.inputs _ (part-laid bs Inputs 28 s.inputs h.inputs_given o.behind_head end₀ o.inputs_held)
+    (then-on (part_of bs Rows (end_of s.inputs)) _ s.rows _ (part-laid bs Rows (end_of s.inputs) s.rows h.rows_given o.inputs_first end₁ o.rows_held)
+    (then-on (part_of bs Table (end_of s.rows)) _ s.table _ (part-laid bs Table (end_of s.rows) s.table h.table_given o.rows_next o.inside o.table_held)
     (then-on (sizes_right (get_or bs 2 0) s.inputs s.rows) _ tt _ (sizes-laid bs s h.inputs f) (ap Ok made))))))
 
 pub accepted : (bs : List ℕ) (s : Parts) → WellFormed bs s → sheet_of bs ≡ Ok s

@@ -9,7 +9,7 @@ use Rattle.sheet.specs.Inputs.{input_at, inputs_right}
 use Rattle.sheet.specs.Parts.{Region, Parts, parts_of}
 use Rattle.sheet.specs.Rows.{row_at, rows_right}
 use Rattle.sheet.specs.Sheets.{sheet_of}
-use Rattle.sheet.proofs.Layouts.{Laid, laid_of}
+use Rattle.sheet.proofs.Laying.{Laid, laid_of}
 use Rattle.sheet.proofs.Spelled.{bytes-chunk, bytes_take, bytes_drop}
 use Rattle.sheet.proofs.Written.{row_written, input-written}
 
@@ -24,7 +24,7 @@ held_bytes : (bs : List ℕ) (p : Region) → AllBytes bs → Held bs p → AllB
 held_bytes bs p bytes h = subst AllBytes (sym h) (bytes_take (length p.bytes) (drop p.at bs) (bytes_drop p.at bs bytes))
 
 -- whatever passed was found
-found-by : {A E : Type 0} (r : Result A E) → passed r ≡ Ok tt → (x : A) × (r ≡ Ok x)
+pub found-by : {A E : Type 0} (r : Result A E) → passed r ≡ Ok tt → (x : A) × (r ≡ Ok x)
 found-by r e = let t = then_ok r (λ _. Ok tt) tt e in (t.0, t.1)
 
 pub formed-of : (bs : List ℕ) (s : Parts) → AllBytes bs → sheet_of bs ≡ Ok s → WellFormed bs s

@@ -1,5 +1,6 @@
 pub mod Accepted
 pub mod Formed
-pub mod Layouts
+pub mod Laying
 pub mod Spelled
 pub mod Written
+pub mod Sounding

@@ -12,6 +12,8 @@ use Rattle.machine.specs.declared.Row.{Row}
 use Rattle.machine.specs.declared.Row.TheVariants.{End, Put, Take, Work, Fork}
 use Rattle.sheet.specs.Parts.{Region, Parts, end_of, offset_of, length_of}
 use Rattle.sheet.specs.Sheets.{Fits}
+use Rattle.sheet.specs.declared.parts.PartName.{PartName}
+use Rattle.sheet.specs.declared.parts.PartName.TheVariants.{Inputs, Rows, Table}
 use Rattle.sheet.specs.declared.refusals.Refusal.{Refusal}
 
 -- an integer in four bytes: its two's complement of 32 bits, the lowest byte first
@@ -65,8 +67,8 @@ pub record InOrder (bs : List ℕ) (s : Parts) : Type 0 where
   pub rows_held : Held bs s.rows
   pub table_held : Held bs s.table
 
--- pair i of the head gives the offset and the length of a part
-abbrev pub Given : List ℕ → ℕ → Region → Type 0
+-- a pair of the head gives the offset and the length of its part
+abbrev pub Given : List ℕ → PartName → Region → Type 0
 Given bs i r = (offset_of bs i ≡ r.at) × (length_of bs i ≡ length r.bytes)
 
 -- the head says version 1, how many variables and inputs there are, and where the parts lie
@@ -77,9 +79,9 @@ pub record Headed (bs : List ℕ) (s : Parts) : Type 0 where
   pub variables : slice_index_or bs 1 0 ≡ s.variables
   pub inputs : slice_index_or bs 2 0 ≡ s.input_count
   pub spare : slice_index_or bs 3 0 ≡ 0
-  pub inputs_given : Given bs 0 s.inputs
-  pub rows_given : Given bs 1 s.rows
-  pub table_given : Given bs 2 s.table
+  pub inputs_given : Given bs Inputs s.inputs
+  pub rows_given : Given bs Rows s.rows
+  pub table_given : Given bs Table s.table
 
 -- what acceptance of a sheet means
 pub record WellFormed (bs : List ℕ) (s : Parts) : Type 0 where

@@ -1,8 +1,11 @@
 pub mod Bytes
 pub mod Format
 pub mod Inputs
+pub mod PartNames
 pub mod Parts
 pub mod Refusals
+pub mod Regions
 pub mod Rows
 pub mod Sheets
+pub mod Sound
 pub mod Views

@@ -2,6 +2,9 @@
 use Rattle.std.specs.Prelude.{ℕ, ◌+◌, ◌*◌, ◌/◌, ◌%◌, ◌&&◌, List, [], ◌∷◌, length, take, drop, Ok, Result, ◌==◌, nat_le, slice_index}
 use Rattle.scan.specs.Scan.{and_then, Check, unless, up_to}
 use Rattle.sheet.specs.Bytes.{word_at}
+use Rattle.sheet.specs.PartNames.{part_number}
+use Rattle.sheet.specs.declared.parts.PartName.{PartName}
+use Rattle.sheet.specs.declared.parts.PartName.TheVariants.{Inputs, Rows, Table}
 use Rattle.sheet.specs.declared.refusals.Refusal.{Refusal}
 use Rattle.sheet.specs.declared.refusals.Refusal.TheVariants.{SheetSize, HeadByte, PartExtent, PartSize}
 
@@ -40,15 +43,15 @@ head_byte bs i = unless (nat_le (slice_index head_low i) (slice_index bs i) && n
 abbrev pub head_right : List ℕ → Check Refusal
 head_right bs = up_to (head_byte bs) 4
 
--- pair i of the head, from byte 4 on: the offset of part i and its length
-abbrev pub offset_of : List ℕ → ℕ → ℕ
-offset_of bs i = word_at bs (4 + 8 * i)
+-- the pair of each part in the head, from byte 4 on: the offset of the part and its length
+abbrev pub offset_of : List ℕ → PartName → ℕ
+offset_of bs p = word_at bs (4 + 8 * part_number p)
 
-abbrev pub length_of : List ℕ → ℕ → ℕ
-length_of bs i = word_at bs (8 + 8 * i)
+abbrev pub length_of : List ℕ → PartName → ℕ
+length_of bs p = word_at bs (8 + 8 * part_number p)
 
--- part i: it begins at or behind the end of what precedes it, and ends inside the sheet
-abbrev pub part_of : List ℕ → ℕ → ℕ → Result Region Refusal
+-- a part: it begins at or behind the end of what precedes it, and ends inside the sheet
+abbrev pub part_of : List ℕ → PartName → ℕ → Result Region Refusal
 part_of bs i before =
     and_then (unless (nat_le before (offset_of bs i) && nat_le (offset_of bs i + length_of bs i) (length bs)) (PartExtent i))
     (λ _. Ok (record { at = offset_of bs i; bytes = take (length_of bs i) (drop (offset_of bs i) bs) }))
@@ -56,17 +59,17 @@ part_of bs i before =
 -- 9 bytes an input; 12 bytes a row, for 1 to 256 rows
 abbrev pub sizes_right : ℕ → Region → Region → Check Refusal
 sizes_right inputs i r =
-    and_then (unless (length i.bytes == 9 * inputs) (PartSize 0))
-    (λ _. unless (length r.bytes % 12 == 0 && (nat_le 12 (length r.bytes) && nat_le (length r.bytes) 3072)) (PartSize 1))
+    and_then (unless (length i.bytes == 9 * inputs) (PartSize Inputs))
+    (λ _. unless (length r.bytes % 12 == 0 && (nat_le 12 (length r.bytes) && nat_le (length r.bytes) 3072)) (PartSize Rows))
 
 -- the layout of a sheet, or the first rule of size, head, extents and counts that it breaks
 abbrev pub parts_of : List ℕ → Result Parts Refusal
 parts_of bs =
     and_then (size_right bs) (λ _.
     and_then (head_right bs) (λ _.
-    and_then (part_of bs 0 28) (λ inputs.
-    and_then (part_of bs 1 (end_of inputs)) (λ rows.
-    and_then (part_of bs 2 (end_of rows)) (λ table.
+    and_then (part_of bs Inputs 28) (λ inputs.
+    and_then (part_of bs Rows (end_of inputs)) (λ rows.
+    and_then (part_of bs Table (end_of rows)) (λ table.
     and_then (sizes_right (slice_index bs 2) inputs rows) (λ _.
     Ok (record {
       variables = slice_index bs 1;

@@ -1,5 +1,6 @@
 // An input of a sheet: 9 bytes, its kind (0 reading, 1 setting), lo and hi.
 ghost use Rattle.std.specs.Prelude.{◌≡◌, length};
+ghost use Rattle.sheet.specs.Bytes.{AllBytes};
 ghost use Rattle.sheet.specs.Inputs.{input_of};
 
 use crate::refusals::Refusal;
@@ -8,7 +9,8 @@ use machine::{Input, InputKind};
 // Reads the bytes of the input with this number.
 pub(crate) fn read_input(number: usize, bytes: &[u8]) -> Result<Input, Refusal>
     requires { length bytes.now ≡ 9 }
-    ensures { result ≡ input_of number bytes.now }
+    ensures value { result ≡ input_of number bytes.now }
+    ensures bytes { AllBytes bytes.now }
 {
     let [kind, l0, l1, l2, l3, h0, h1, h2, h3] = bytes else {
         unreachable()

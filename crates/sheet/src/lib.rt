@@ -4,12 +4,14 @@
 #![tactic(auto)]
 
 mod inputs;
+mod layouts;
 mod parts;
+mod reading;
 mod refusals;
 mod rows;
 mod views;
 mod words;
 
-pub use parts::Part;
+pub use parts::{Part, PartName};
 pub use refusals::{Refusal, Report};
 pub use views::Sheet;

@@ -2,9 +2,30 @@
 ghost use Rattle.std.specs.Prelude.{◌≡◌, ◌+◌, ◌<◌, ◌≤◌, length};
 ghost use Rattle.sheet.specs.Bytes.{word_at};
 ghost use Rattle.sheet.specs.Parts.{head_right, size_right, part_of};
-ghost use Rattle.sheet.specs.Views.{region_in};
+ghost use Rattle.sheet.specs.PartNames.{part_number};
+ghost use Rattle.sheet.specs.Regions.{region_in};
 
 use crate::refusals::Refusal;
+
+/// The three parts of a sheet, in their order.
+#[derive(Clone, Copy, PartialEq, Eq, Debug)]
+pub enum PartName {
+    Inputs,
+    Rows,
+    Table,
+}
+
+impl From<PartName> for usize {
+    ghost from_gives = { λ part number. number ≡ part_number part };
+
+    fn from(part: PartName) -> usize {
+        match part {
+            PartName::Inputs => 0,
+            PartName::Rows => 1,
+            PartName::Table => 2,
+        }
+    }
+}
 
 /// A part of a sheet: the byte at which it begins, and its bytes.
 #[derive(Clone, Copy)]
@@ -52,15 +73,16 @@ fn word(bytes: &[u8], at: usize) -> usize
     u32::from_le_bytes([bytes[at], bytes[at + 1], bytes[at + 2], bytes[at + 3]]) as usize
 }
 
-// Lays out the part that the head's pair `index` gives: not before `before`, and inside the sheet.
-pub(crate) fn lay_out(bytes: &[u8], index: usize, before: usize) -> Result<Part<'_>, Refusal>
-    requires { (28 ≤ length bytes.now) × (index < 3) }
-    ensures { region_in result ≡ part_of bytes.now index before }
+// Lays out the part that its pair in the head gives: not before `before`, and inside the sheet.
+pub(crate) fn lay_out(bytes: &[u8], part: PartName, before: usize) -> Result<Part<'_>, Refusal>
+    requires { 28 ≤ length bytes.now }
+    ensures { region_in result ≡ part_of bytes.now part before }
 {
-    let at = word(bytes, 4 + 8 * index);
-    let len = word(bytes, 8 + 8 * index);
+    let pair = 4 + 8 * usize::from(part);
+    let at = word(bytes, pair);
+    let len = word(bytes, pair + 4);
     if at < before || at + len > bytes.len() {
-        return Err(Refusal::PartExtent { part: index });
+        return Err(Refusal::PartExtent { part });
     }
     let (_, rest) = bytes.split_at(at);
     let (inside, _) = rest.split_at(len);

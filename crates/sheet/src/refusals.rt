@@ -2,8 +2,10 @@
 ghost use Rattle.std.specs.Prelude.{◌≡◌};
 ghost use Rattle.sheet.specs.Refusals.{numbers};
 
+use crate::parts::PartName;
+
 /// A refusal: which rule failed, and where.
-#[derive(Clone, Copy)]
+#[derive(Clone, Copy, PartialEq, Eq, Debug)]
 pub enum Refusal {
     /// 1: the sheet has under 28 or over 1,048,576 bytes.
     SheetSize,
@@ -13,11 +15,11 @@ pub enum Refusal {
     },
     /// 3: a part begins before the end of what precedes it, or ends past the sheet.
     PartExtent {
-        part: usize,
+        part: PartName,
     },
     /// 4: the inputs part or the rows part is not as long as its records.
     PartSize {
-        part: usize,
+        part: PartName,
     },
     /// 5: an input has an unknown kind, or its lo exceeds its hi.
     InputRecord {
@@ -41,7 +43,9 @@ pub enum Refusal {
         place: usize,
         variable: usize,
     },
-    /// 11: entry 0 is absent (variable 16), or a cell of it does not cover the value of 0 (the lowest).
+    /// 11 of variable 16: entry 0 is absent.
+    StartAbsent,
+    /// 11: a cell of entry 0 does not cover the value of 0; the lowest such.
     StartUncovered {
         variable: usize,
     },
@@ -97,14 +101,15 @@ impl Refusal {
         let (number, place, way, variable) = match self {
             Refusal::SheetSize => (1, 0, 0, 0),
             Refusal::HeadByte { byte } => (2, byte, 0, 0),
-            Refusal::PartExtent { part } => (3, part, 0, 0),
-            Refusal::PartSize { part } => (4, part, 0, 0),
+            Refusal::PartExtent { part } => (3, usize::from(part), 0, 0),
+            Refusal::PartSize { part } => (4, usize::from(part), 0, 0),
             Refusal::InputRecord { input } => (5, input, 0, 0),
             Refusal::RowByte { place, byte } => (6, place, byte, 0),
             Refusal::NoWidth => (7, 0, 0, 0),
             Refusal::TableSize => (8, 0, 0, 0),
             Refusal::EntryFlag { place } => (9, place, 0, 0),
             Refusal::CellUnreadable { place, variable } => (10, place, 0, variable),
+            Refusal::StartAbsent => (11, 0, 0, 16),
             Refusal::StartUncovered { variable } => (11, 0, 0, variable),
             Refusal::ZeroWarning { place } => (12, place, 0, 0),
             Refusal::RangeWarning { place } => (13, place, 0, 0),

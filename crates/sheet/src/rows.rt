@@ -4,6 +4,7 @@ ghost use Rattle.std.specs.Prelude.{◌≡◌, length};
 ghost use Rattle.scan.specs.Scan.{up_to};
 ghost use Rattle.std.specs.Option.{unwrap_or};
 ghost use Rattle.number.specs.Codes.{op_coded, relation_coded};
+ghost use Rattle.sheet.specs.Bytes.{AllBytes};
 ghost use Rattle.sheet.specs.Rows.{limits, row_byte, row_in, row_of};
 
 use crate::refusals::Refusal;
@@ -70,7 +71,8 @@ fn relation_of(code: u8) -> Relation
 // What the bytes of a row say.
 pub(crate) fn decode_row(bytes: &[u8]) -> Row
     requires { length bytes.now ≡ 12 }
-    ensures { result ≡ row_in bytes.now }
+    ensures value { result ≡ row_in bytes.now }
+    ensures bytes { AllBytes bytes.now }
 {
     let [kind, x, code, a, b, t, u, _, n0, n1, n2, n3] = bytes else {
         unreachable()

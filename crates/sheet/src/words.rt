@@ -1,5 +1,6 @@
 // Refusals in words.
-use crate::refusals::Refusal;
+use crate::parts::PartName;
+use crate::refusals::{Refusal, Report};
 use std::fmt;
 
 impl fmt::Display for Refusal {
@@ -9,17 +10,17 @@ impl fmt::Display for Refusal {
             Refusal::HeadByte { byte } => write!(
                 f,
                 "byte {byte} of the head is wrong: {}",
-                HeadRule(byte)
+                head_rule(byte)
             ),
             Refusal::PartExtent { part } => write!(
                 f,
                 "the {} part begins before the end of what precedes it, or ends past the sheet",
-                PartName(part)
+                part
             ),
             Refusal::PartSize { part } => write!(
                 f,
                 "the {} part is not as long as its records: 9 bytes an input, 12 bytes a row, 1 to 256 rows",
-                PartName(part)
+                part
             ),
             Refusal::InputRecord { input } => {
                 write!(
@@ -30,7 +31,7 @@ impl fmt::Display for Refusal {
             Refusal::RowByte { place, byte } => write!(
                 f,
                 "byte {byte} of the row at {place} is wrong: it {}",
-                ByteRule(byte)
+                byte_rule(byte)
             ),
             Refusal::NoWidth => write!(f, "the domain has no cell of 1 to 64 bytes"),
             Refusal::TableSize => write!(
@@ -49,7 +50,7 @@ impl fmt::Display for Refusal {
                     "the cell of v{variable} in the entry at {place} holds no value"
                 )
             }
-            Refusal::StartUncovered { variable: 16 } => write!(f, "the entry at 0 is absent"),
+            Refusal::StartAbsent => write!(f, "the entry at 0 is absent"),
             Refusal::StartUncovered { variable } => {
                 write!(
                     f,
@@ -86,51 +87,45 @@ impl fmt::Display for Refusal {
 }
 
 // What a byte of the head has to be.
-#[derive(Drop)]
-struct HeadRule(usize);
-
-impl fmt::Display for HeadRule {
-    fn fmt<W: fmt::Write>(&self, f: &mut fmt::Formatter<W>) -> fmt::Result {
-        let rule = match self.0 {
-            0 => "the version is 1",
-            1 => "there are 1 to 16 variables",
-            2 => "there are at most 8 inputs",
-            _ => "it is 0",
-        };
-        write!(f, "{rule}")
-    }
-}
-
-// The name of a part by its number.
-#[derive(Drop)]
-struct PartName(usize);
-
-impl fmt::Display for PartName {
-    fn fmt<W: fmt::Write>(&self, f: &mut fmt::Formatter<W>) -> fmt::Result {
-        let name = match self.0 {
-            0 => "inputs",
-            1 => "rows",
-            _ => "table",
-        };
-        write!(f, "{name}")
+fn head_rule(byte: usize) -> &'static str {
+    match byte {
+        0 => "the version is 1",
+        1 => "there are 1 to 16 variables",
+        2 => "there are at most 8 inputs",
+        _ => "it is 0",
     }
 }
 
 // What a byte of a row says, where its kind uses it.
-#[derive(Drop)]
-struct ByteRule(usize);
+fn byte_rule(byte: usize) -> &'static str {
+    match byte {
+        0 => "is a kind from 0 to 4",
+        1 => "names the variable that is set, or is 0",
+        2 => "names an operation, a relation or an input, or is 0",
+        3 | 4 => "names a variable, or is 0",
+        5 | 6 => "names a place, or is 0",
+        7 => "is 0",
+        _ => "is 0 unless the row puts an integer",
+    }
+}
 
-impl fmt::Display for ByteRule {
+impl fmt::Display for PartName {
     fn fmt<W: fmt::Write>(&self, f: &mut fmt::Formatter<W>) -> fmt::Result {
-        let rule = match self.0 {
-            0 => "is a kind from 0 to 4",
-            1 => "names the variable that is set, or is 0",
-            2 => "names an operation, a relation or an input, or is 0",
-            3 | 4 => "names a variable, or is 0",
-            5 | 6 => "names a place, or is 0",
-            7 => "is 0",
-            _ => "is 0 unless the row puts an integer",
-        };
-        write!(f, "{rule}")
+        f.write_str(match self {
+            PartName::Inputs => "inputs",
+            PartName::Rows => "rows",
+            PartName::Table => "table",
+        })
+    }
+}
+
+// The four numbers, as programs print them.
+impl fmt::Display for Report {
+    fn fmt<W: fmt::Write>(&self, f: &mut fmt::Formatter<W>) -> fmt::Result {
+        write!(
+            f,
+            "{} {} {} {}",
+            self.number, self.place, self.way, self.variable
+        )
     }
 }

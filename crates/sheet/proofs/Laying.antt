@@ -6,6 +6,8 @@ use Rattle.scan.proofs.Scans.{stage, ok_same, up-each, held}
 use Rattle.sheet.specs.Format.{Held, InOrder, Headed, Given}
 use Rattle.sheet.specs.Parts.{Region, Parts, end_of, size_right, head_byte, head_right, part_of, sizes_right, parts_of, offset_of, length_of}
 use Rattle.sheet.specs.Sheets.{Fits}
+use Rattle.sheet.specs.declared.parts.PartName.{PartName}
+use Rattle.sheet.specs.declared.parts.PartName.TheVariants.{Inputs, Rows, Table}
 
 -- what an accepted layout keeps to
 pub record Laid (bs : List ℕ) (s : Parts) : Type 0 where
@@ -35,13 +37,13 @@ head_bytes bs e =
 
 -- an accepted part is the one that its pair gives, lies behind what precedes it, inside the sheet, and
 -- holds what the sheet holds there
-pub record Inside (bs : List ℕ) (i before : ℕ) (p : Region) : Type 0 where
+pub record Inside (bs : List ℕ) (i : PartName) (before : ℕ) (p : Region) : Type 0 where
   pub given : Given bs i p
   pub behind : before ≤ p.at
   pub ends : end_of p ≤ length bs
   pub held : Held bs p
 
-part-inside : (bs : List ℕ) (i before : ℕ) (p : Region) → part_of bs i before ≡ Ok p → Inside bs i before p
+part-inside : (bs : List ℕ) (i : PartName) (before : ℕ) (p : Region) → part_of bs i before ≡ Ok p → Inside bs i before p
 part-inside bs i before p e = stage
     (unless (leb before (offset_of bs i) && leb (offset_of bs i + length_of bs i) (length bs)) _) _ p
     (λ _ ok made.
@@ -72,7 +74,7 @@ sizes-of k i r e = stage
 
 -- the layout that its parts make up
 together : (bs : List ℕ) (inputs rows table : Region) → (28 ≤ length bs) × (length bs ≤ 1048576) → HeadBytes bs
-    → Inside bs 0 28 inputs → Inside bs 1 (end_of inputs) rows → Inside bs 2 (end_of rows) table → Sized (get_or bs 2 0) inputs.bytes rows.bytes
+    → Inside bs Inputs 28 inputs → Inside bs Rows (end_of inputs) rows → Inside bs Table (end_of rows) table → Sized (get_or bs 2 0) inputs.bytes rows.bytes
     → Laid bs (record { variables = get_or bs 1 0; input_count = get_or bs 2 0; places = length rows.bytes / 12; inputs = inputs; rows = rows; table = table })
 together bs inputs rows table size head first second third sizes = record {
   head = record {
@@ -110,12 +112,12 @@ pub laid_of : (bs : List ℕ) (s : Parts) → parts_of bs ≡ Ok s → Laid bs s
 laid_of bs s e =
     stage (size_right bs) _ s (λ _ size e₁.
     stage (head_right bs) _ s (λ _ head e₂.
-    stage (part_of bs 0 28) _ s (λ inputs first e₃.
-    stage (part_of bs 1 (end_of inputs)) _ s (λ rows second e₄.
-    stage (part_of bs 2 (end_of rows)) _ s (λ table third e₅.
+    stage (part_of bs Inputs 28) _ s (λ inputs first e₃.
+    stage (part_of bs Rows (end_of inputs)) _ s (λ rows second e₄.
+    stage (part_of bs Table (end_of rows)) _ s (λ table third e₅.
     stage (sizes_right (get_or bs 2 0) inputs rows) _ s (λ _ sizes e₆.
     subst (Laid bs) (ok_same e₆)
     (together bs inputs rows table (two-sided 28 (length bs) 1048576 (held _ _ size)) (head_bytes bs head)
-    (part-inside bs 0 28 inputs first) (part-inside bs 1 (end_of inputs) rows second) (part-inside bs 2 (end_of rows) table third)
+    (part-inside bs Inputs 28 inputs first) (part-inside bs Rows (end_of inputs) rows second) (part-inside bs Table (end_of rows) table third)
     (sizes-of (get_or bs 2 0) inputs rows sizes)))
     e₅) e₄) e₃) e₂) e₁) e

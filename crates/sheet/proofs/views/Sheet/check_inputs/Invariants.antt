@@ -1,8 +1,0 @@
-use Rattle.std.proofs.Common.{◌≡◌, Ok}
-use Rattle.scan.specs.Scan.{up_to, passed}
-use Rattle.sheet.specs.Inputs.{input_at}
-use Rattle.sheet.specs.Views.{seen}
-use Rattle.sheet.proofs.views.Sheet.check_inputs.Given as goal
-
-abbrev pub invariant-loop-number : goal.invariant-loop-number
-invariant-loop-number l = up_to (λ i. passed (input_at (seen l.self) i)) l.number ≡ Ok tt

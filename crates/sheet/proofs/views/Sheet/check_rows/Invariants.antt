@@ -1,8 +1,0 @@
-use Rattle.std.proofs.Common.{◌≡◌, Ok}
-use Rattle.scan.specs.Scan.{up_to, passed}
-use Rattle.sheet.specs.Rows.{row_at}
-use Rattle.sheet.specs.Views.{seen}
-use Rattle.sheet.proofs.views.Sheet.check_rows.Given as goal
-
-abbrev pub invariant-loop-place : goal.invariant-loop-place
-invariant-loop-place l = up_to (λ i. passed (row_at (seen l.self) i)) l.place ≡ Ok tt
