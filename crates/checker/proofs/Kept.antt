@@ -1,6 +1,10 @@
 -- A variable that a way leaves as it is, where both entries hold the same cell, is covered. Assumes the law of order.
-use Rattle.std.proofs.Common.{◌≡◌, ℕ, zero, suc, ◌<◌, Bool, true, eqb, ◌⊎◌, List, ℤ, unwrap_or, sym, refl, ap, ◌∙◌, subst, inl, inr, ⊎_elim, arith}
+use Rattle.std.proofs.Common.{◌≡◌, ℕ, zero, suc, ◌+◌, ◌<◌, ◌≤◌, Bool, true, false, not, T, eqb, length, Option, Some, None, ◌⊎◌, List, ℤ, unwrap_or, sym, refl, ap, ◌∙◌, subst, inl, inr, ⊎_elim, arith}
 use Rattle.std.proofs.lemmas.Bool.{and_from, cases_eq, cond-false, ne_eqb}
+use Rattle.std.proofs.lemmas.List.FromFn.{length-range_with_len, get_or-range_with_len}
+use Rattle.std.specs.Bool.{MatchBool}
+use Rattle.std.specs.List.{AllWithin, range_with_len}
+use Rattle.std.specs.Option.{MatchOption}
 use Rattle.domain.specs.Laws.{Order}
 use Rattle.domain.specs.Model.{Ops}
 use Rattle.rules.specs.Checks.{all_below}
@@ -9,6 +13,7 @@ use Rattle.rules.specs.Ways.{changed}
 use Rattle.checker.specs.Changes.{after, covers, Touched, Untouched, ChangesCovered}
 use Rattle.checker.specs.Grids.{shown, claims_in}
 use Rattle.checker.specs.declared.changes.Change.{Change}
+use Rattle.checker.specs.declared.changes.Way.{Way}
 use Rattle.checker.specs.declared.changes.Change.TheVariants.{Nothing, One, Two}
 use Rattle.checker.specs.declared.grids.Grid.{Grid}
 
@@ -34,38 +39,54 @@ pub below_each : (f : ℕ → Bool) (n : ℕ) → ((i : ℕ) → i < n → f i �
 below_each f zero each = refl
 below_each f (suc n) each = and_from (all_below f n) (f n) (below_each f n (λ i h. each i (omega arith))) (each n (omega arith))
 
-module _ {V : Type 0} (describes : V → ℤ → Type 0) (o : Ops V) (order : Order describes o) (g : Grid) (place : ℕ) (change : Change V) (next : ℕ) where
-  pub same-covered : (x : ℕ) → Untouched change x → cell_at (shown g) place x ≡ cell_at (shown g) next x → covers o g place change next x ≡ true
+module _ {V : Type 0} (describes : V → ℤ → Type 0) (o : Ops V) (order : Order describes o) (w : Way V) where
+  abbrev g : Grid
+  g = w.from.grid.now
+
+  pub same-covered : (x : ℕ) → Untouched w.change x → cell_at (shown g) w.from.place x ≡ cell_at (shown g) w.next x → covers o w x ≡ true
   same-covered x kept same =
-      ap (o.covers ((claims_in o g).cell next x)) (as-it-is ((claims_in o g).cell place) change x kept
+      ap (o.covers ((claims_in o g).cell w.next x)) (as-it-is ((claims_in o g).cell w.from.place) w.change x kept
       ∙ ap (λ (cell : List ℕ). unwrap_or (o.reads cell) o.anything) same)
-      ∙ order.covers_self ((claims_in o g).cell next x)
+      ∙ order.covers_self ((claims_in o g).cell w.next x)
 
   -- what is changed is covered, and so is all else
-  pub all-covered : ChangesCovered o g place change next
-      → ((i : ℕ) → i < g.sheet.variables → Untouched change i → covers o g place change next i ≡ true)
-      → all_below (covers o g place change next) g.sheet.variables ≡ true
-  all-covered changes rest = below_each (covers o g place change next) g.sheet.variables (λ i h.
-      ⊎_elim (λ (t : Touched change i). changes i h t) (λ (u : Untouched change i). rest i h u) (touched-or-not change i))
+  pub all-covered : ChangesCovered o w
+      → ((i : ℕ) → i < g.sheet.variables → Untouched w.change i → covers o w i ≡ true)
+      → all_below (covers o w) g.sheet.variables ≡ true
+  all-covered changes rest = below_each (covers o w) g.sheet.variables (λ i h.
+      ⊎_elim (λ (t : Touched w.change i). changes i h t) (λ (u : Untouched w.change i). rest i h u) (touched-or-not w.change i))
 
 -- what a way changes is covered, by what it changes
-module _ {V : Type 0} (o : Ops V) (g : Grid) (place next : ℕ) where
-  abbrev At : Change V → ℕ → Type 0
-  At change x = x < g.sheet.variables → covers o g place change next x ≡ true
+module _ {V : Type 0} (o : Ops V) (w : Way V) where
+  abbrev At : ℕ → Type 0
+  At x = x < w.from.grid.now.sheet.variables → covers o w x ≡ true
 
-  at_same : (change : Change V) (x i : ℕ) → i ≡ x → At change x → At change i
-  at_same change x i e covered = subst (At change) (sym e) covered
+  at_same : (x i : ℕ) → i ≡ x → At x → At i
+  at_same x i e covered = subst At (sym e) covered
 
-  changed-as : (change is : Change V) → change ≡ is → ChangesCovered o g place is next → ChangesCovered o g place change next
-  changed-as change is e covered = subst (λ (c : Change V). ChangesCovered o g place c next) (sym e) covered
+  pub none-changed : w.change ≡ Nothing → ChangesCovered o w
+  none-changed e = λ i h t. absurd (subst (λ (c : Change V). Touched c i) e t)
 
-  pub none-changed : (change : Change V) → change ≡ Nothing → ChangesCovered o g place change next
-  none-changed change e = changed-as change Nothing e (λ i h t. absurd t)
+  pub one-changed : (x : ℕ) (v : V) → w.change ≡ One x v → At x → ChangesCovered o w
+  one-changed x v e covered = λ i h t. at_same x i (subst (λ (c : Change V). Touched c i) e t) covered h
 
-  pub one-changed : (change : Change V) (x : ℕ) (v : V) → change ≡ One x v → At (One x v) x → ChangesCovered o g place change next
-  one-changed change x v e covered = changed-as change (One x v) e (λ i h t. at_same (One x v) x i t covered h)
+  pub two-changed : (a : ℕ) (v : V) (b : ℕ) (u : V) → w.change ≡ Two a v b u → At a → At b → ChangesCovered o w
+  two-changed a v b u e first second = λ i h t.
+      ⊎_elim (λ (q : i ≡ a). at_same a i q first h) (λ (q : i ≡ b). at_same b i q second h) (subst (λ (c : Change V). Touched c i) e t)
 
-  pub two-changed : (change : Change V) (a : ℕ) (v : V) (b : ℕ) (w : V) → change ≡ Two a v b w → At (Two a v b w) a → At (Two a v b w) b
-      → ChangesCovered o g place change next
-  two-changed change a v b w e first second = changed-as change (Two a v b w) e (λ i h t.
-      ⊎_elim (λ (q : i ≡ a). at_same (Two a v b w) a i q first h) (λ (q : i ≡ b). at_same (Two a v b w) b i q second h) t)
+false_not_true : {A : Type 0} → false ≡ true → A
+false_not_true e = absurd (subst (λ (b : Bool). T (not b)) e tt)
+
+-- what `all` and `find` over the numbers below n say of a test
+pub each-of : (Yes : ℕ → Type 0) (No : Type 0) (n : ℕ) (r : Bool) → MatchBool r (AllWithin Yes (range_with_len 0 n) 0 (length (range_with_len 0 n))) No
+    → r ≡ true → (i : ℕ) → i < n → Yes i
+each-of Yes No n true h e i below =
+    let e : 0 + i ≡ i = omega arith in
+    subst Yes (get_or-range_with_len 0 n i 0 below ∙ e) (h i 0 (omega arith) (omega (arith, below, length-range_with_len 0 n)))
+each-of Yes No n false h e i below = false_not_true e
+
+pub first-of : (f : ℕ → Bool) (n : ℕ) (r : Option ℕ)
+    → MatchOption r ((k : ℕ) → 0 ≤ k → k < n → f k ≡ true) (λ i. (0 ≤ i) × (i < n) × (f i ≡ false) × ((k : ℕ) → 0 ≤ k → k < i → f k ≡ true))
+    → MatchOption r (all_below f n ≡ true) (λ x. (x < n) × (f x ≡ false))
+first-of f n None h = below_each f n (λ i below. h i (omega arith) below)
+first-of f n (Some x) h = (h.1, h.2)

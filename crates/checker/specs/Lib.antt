@@ -1,4 +1,3 @@
 pub mod Changes
 pub mod Grids
-pub mod Readable
 pub mod Scans

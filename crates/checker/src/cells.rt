@@ -1,47 +1,50 @@
-// The flags and the cells of a grid, and the values in them.
-ghost use Rattle.std.specs.Prelude.{◌≡◌, ◌<◌, length};
+// The flag and the cells of an entry, and the values in them.
+ghost use Rattle.std.specs.Prelude.{◌≡◌, ◌+◌, ◌*◌, ◌<◌, length};
 ghost use Rattle.checker.specs.Grids.{shown, claims_in};
-ghost use Rattle.rules.specs.Tables.{flag_at, cell_at};
+ghost use Rattle.rules.specs.Tables.{entry_at, flag_at, cell_at};
 
-use crate::grids::Grid;
+use crate::grids::Entry;
 use domain::Domain;
 use scan::piece;
 
-impl<'a> Grid<'a> {
-    // The flag of the entry at `place`.
-    pub(crate) fn flag(&self, place: usize) -> u8
-        requires { place < self.now.sheet.places }
-        ensures { result ≡ flag_at (shown self.now) place }
+impl<'a> Entry<'_, 'a> {
+    // The flag and the cells.
+    fn bytes(&self) -> &'a [u8]
+        ensures value { result.now ≡ entry_at (shown self.now.grid.now) self.now.place }
+        ensures sized { length result.now ≡ 1 + self.now.grid.now.sheet.variables * self.now.grid.now.width }
     {
-        piece(self.sheet.table.bytes, self.entry, self.sheet.places, place)[0]
+        let sheet = &self.grid.sheet;
+        piece(sheet.table.bytes, self.grid.entry, sheet.places, self.place)
     }
 
-    // The cell of a variable in the entry at `place`.
-    pub(crate) fn cell(&self, place: usize, variable: usize) -> &'a [u8]
-        requires { (place < self.now.sheet.places) × (variable < self.now.sheet.variables) }
-        ensures { result.now ≡ cell_at (shown self.now) place variable }
+    // The flag.
+    pub(crate) fn flag(&self) -> u8
+        ensures { result ≡ flag_at (shown self.now.grid.now) self.now.place }
     {
-        let entry = piece(self.sheet.table.bytes, self.entry, self.sheet.places, place);
-        let (_, cells) = entry.split_at(1);
-        piece(cells, self.width, self.sheet.variables, variable)
+        self.bytes()[0]
     }
-}
 
-// What the table claims of a variable at `place`: the value in its cell.
-pub(crate) fn claimed<D: Domain>(grid: &Grid<'_>, place: usize, variable: usize) -> D
-    requires { (place < grid.now.sheet.places) × (variable < grid.now.sheet.variables) }
-    ensures { result ≡ (claims_in D.Domain.ops grid.now).cell place variable }
-{
-    match D::read(grid.cell(place, variable)) {
-        Some(value) => value,
-        None => D::anything(),
+    // The cell of a variable.
+    pub(crate) fn cell(&self, variable: usize) -> &'a [u8]
+        requires { variable < self.now.grid.now.sheet.variables }
+        ensures { result.now ≡ cell_at (shown self.now.grid.now) self.now.place variable }
+    {
+        let (_, cells) = self.bytes().split_at(1);
+        piece(cells, self.grid.width, self.grid.sheet.variables, variable)
     }
-}
 
-// Whether the entry at `place` is present.
-pub(crate) fn present<D: Domain>(grid: &Grid<'_>, place: usize) -> bool
-    requires { place < grid.now.sheet.places }
-    ensures { result ≡ (claims_in D.Domain.ops grid.now).present place }
-{
-    grid.flag(place) == 1
+    // What the table claims of a variable here: the value in its cell.
+    pub(crate) fn claimed<D: Domain>(&self, variable: usize) -> D
+        requires { variable < self.now.grid.now.sheet.variables }
+        ensures { result ≡ (claims_in D.Domain.ops self.now.grid.now).cell self.now.place variable }
+    {
+        D::read(self.cell(variable)).unwrap_or(D::anything())
+    }
+
+    // Whether the entry is present, whatever the domain.
+    pub(crate) fn is_present<D: Domain>(&self) -> bool
+        ensures { result ≡ (claims_in D.Domain.ops self.now.grid.now).present self.now.place }
+    {
+        self.flag() == 1
+    }
 }

@@ -1,47 +1,47 @@
 // Every entry can be read: its flag is 0 or 1, and each cell of a present one holds a value.
-ghost use Rattle.std.specs.Prelude.{◌≡◌, ℕ, ◌<◌, is_some};
-ghost use Rattle.scan.specs.Scan.{up_to, unless};
-ghost use Rattle.sheet.specs.declared.refusals.Refusal.TheVariants.{CellUnreadable};
+ghost use Rattle.std.specs.Prelude.{◌≡◌, ◌<◌};
+ghost use Rattle.scan.specs.Scan.{up_to};
 ghost use Rattle.checker.specs.Grids.{shown};
 ghost use Rattle.checker.specs.Scans.{cell_right};
-ghost use Rattle.rules.specs.Faults.{Meets, fixed};
+ghost use Rattle.rules.specs.Faults.{Meets};
 ghost use Rattle.rules.specs.Tables.{entry_right, entries_right};
 
-use crate::grids::Grid;
+use crate::grids::{Entry, Grid};
 use domain::Domain;
 use sheet::Refusal;
 
-// The cell of a variable in the entry at `place` holds a value.
-fn check_cell<D: Domain>(grid: &Grid<'_>, place: usize, variable: usize) -> Result<(), Refusal>
-    requires { (place < grid.now.sheet.places) × (variable < grid.now.sheet.variables) }
-    ensures { Meets result (cell_right D.Domain.ops (shown grid.now) place variable) }
-{
-    match D::read(grid.cell(place, variable)) {
-        Some(_) => Ok(()),
-        None => Err(Refusal::CellUnreadable { place, variable }),
+impl Entry<'_, '_> {
+    // The cell of a variable holds a value.
+    fn check_cell<D: Domain>(&self, variable: usize) -> Result<(), Refusal>
+        requires { variable < self.now.grid.now.sheet.variables }
+        ensures { Meets result (cell_right D.Domain.ops (shown self.now.grid.now) self.now.place variable) }
+    {
+        let place = self.place;
+        match D::read(self.cell(variable)) {
+            Some(_) => Ok(()),
+            None => Err(Refusal::CellUnreadable { place, variable }),
+        }
     }
-}
 
-// Every cell of the entry at `place` holds a value.
-fn check_cells<D: Domain>(grid: &Grid<'_>, place: usize) -> Result<(), Refusal>
-    requires { place < grid.now.sheet.places }
-    ensures { Meets result (up_to (cell_right D.Domain.ops (shown grid.now) place) grid.now.sheet.variables) }
-{
-    for variable in 0..grid.sheet.variables {
-        check_cell::<D>(grid, place, variable)?;
+    // Every cell holds a value.
+    fn check_cells<D: Domain>(&self) -> Result<(), Refusal>
+        ensures { Meets result (up_to (cell_right D.Domain.ops (shown self.now.grid.now) self.now.place) self.now.grid.now.sheet.variables) }
+    {
+        for variable in 0..self.grid.sheet.variables {
+            self.check_cell::<D>(variable)?;
+        }
+        Ok(())
     }
-    Ok(())
-}
 
-// The flag of the entry at `place`, and its cells where it is present.
-fn check_entry<D: Domain>(grid: &Grid<'_>, place: usize) -> Result<(), Refusal>
-    requires { place < grid.now.sheet.places }
-    ensures { Meets result (entry_right D.Domain.ops (shown grid.now) place) }
-{
-    match grid.flag(place) {
-        0 => Ok(()),
-        1 => check_cells::<D>(grid, place),
-        _ => Err(Refusal::EntryFlag { place }),
+    // The flag, and the cells where the entry is present.
+    fn check<D: Domain>(&self) -> Result<(), Refusal>
+        ensures { Meets result (entry_right D.Domain.ops (shown self.now.grid.now) self.now.place) }
+    {
+        match self.flag() {
+            0 => Ok(()),
+            1 => self.check_cells::<D>(),
+            _ => Err(Refusal::EntryFlag { place: self.place }),
+        }
     }
 }
 
@@ -50,7 +50,8 @@ pub(crate) fn check_entries<D: Domain>(grid: &Grid<'_>) -> Result<(), Refusal>
     ensures { Meets result (entries_right D.Domain.ops (shown grid.now)) }
 {
     for place in 0..grid.sheet.places {
-        check_entry::<D>(grid, place)?;
+        let entry = Entry { grid, place };
+        entry.check::<D>()?;
     }
     Ok(())
 }

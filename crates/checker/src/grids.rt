@@ -1,5 +1,5 @@
 // A sheet whose table is laid out for cells of one width.
-ghost use Rattle.std.specs.Prelude.{◌≡◌, ◌+◌, ◌*◌, ◌≤◌, length};
+ghost use Rattle.std.specs.Prelude.{◌≡◌, ◌+◌, ◌*◌, ◌<◌, ◌≤◌, length};
 
 use sheet::Sheet;
 
@@ -9,10 +9,15 @@ pub struct Grid<'a> {
     pub sheet: Sheet<'a>,
     pub width: usize,
     pub entry: usize,
-    ghost few: { sheet.variables ≤ 16 },
-    ghost some: { 1 ≤ sheet.places },
-    ghost short: { sheet.places ≤ 256 },
     ghost narrow: { width ≤ 64 },
     ghost sized: { entry ≡ 1 + sheet.variables * width },
     ghost whole: { length sheet.table.bytes.now ≡ sheet.places * entry },
+}
+
+/// The entry of a grid at a place.
+#[derive(Clone, Copy)]
+pub struct Entry<'g, 'a> {
+    pub grid: &'g Grid<'a>,
+    pub place: usize,
+    ghost within: { place < grid.now.sheet.places },
 }

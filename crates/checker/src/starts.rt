@@ -6,8 +6,7 @@ ghost use Rattle.rules.specs.Faults.{Meets};
 ghost use Rattle.checker.specs.Grids.{routine_in, claims_in};
 ghost use Rattle.checker.specs.Scans.{start_cell};
 
-use crate::cells::{claimed, present};
-use crate::grids::Grid;
+use crate::grids::{Entry, Grid};
 use domain::Domain;
 use sheet::Refusal;
 
@@ -16,7 +15,8 @@ fn check_zero<D: Domain>(grid: &Grid<'_>, variable: usize) -> Result<(), Refusal
     requires { variable < grid.now.sheet.variables }
     ensures { Meets result (start_cell D.Domain.ops grid.now variable) }
 {
-    if D::covers(claimed::<D>(grid, 0, variable), D::value(0, 0)) {
+    let start = Entry { grid, place: 0 };
+    if D::covers(start.claimed::<D>(variable), D::value(0, 0)) {
         Ok(())
     } else {
         Err(Refusal::StartUncovered { variable })
@@ -36,8 +36,9 @@ fn check_zeros<D: Domain>(grid: &Grid<'_>) -> Result<(), Refusal>
 pub(crate) fn check_start<D: Domain>(grid: &Grid<'_>) -> Result<(), Refusal>
     ensures { Meets result (start_right D.Domain.ops (routine_in grid.now) (claims_in D.Domain.ops grid.now)) }
 {
-    if !present::<D>(grid, 0) {
-        return Err(Refusal::StartUncovered { variable: 16 });
+    let start = Entry { grid, place: 0 };
+    if !start.is_present::<D>() {
+        return Err(Refusal::StartAbsent);
     }
     check_zeros::<D>(grid)
 }

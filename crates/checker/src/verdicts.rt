@@ -7,7 +7,6 @@ ghost use Rattle.rules.specs.Faults.{Meets};
 ghost use Rattle.rules.specs.Safety.{SafeParts, SafeSheet};
 ghost use Rattle.rules.specs.Tables.{table_right, verdict_of};
 ghost use Rattle.checker.specs.Grids.{parts_in, places_in};
-ghost use Rattle.checker.specs.Readable.{Readable};
 ghost use Rattle.checker.specs.Scans.{claims_right, table_holds};
 
 use crate::entries::check_entries;
@@ -19,7 +18,6 @@ use sheet::{Refusal, Sheet};
 
 // The table of a sheet that has been read holds for its routine.
 fn check_table<D: Domain>(sheet: Sheet<'_>) -> Result<(), Refusal>
-    requires { Readable (seen sheet) }
     ensures { Meets result (table_right D.Domain.ops (seen sheet.entry)) }
 {
     let width = D::width();
@@ -40,7 +38,6 @@ fn check_table<D: Domain>(sheet: Sheet<'_>) -> Result<(), Refusal>
 
 // Every entry can be read, and what they claim holds.
 fn check_grid<D: Domain>(grid: &Grid<'_>) -> Result<(), Refusal>
-    requires { Readable (parts_in grid.now) }
     ensures { Meets result (table_holds D.Domain.ops (parts_in grid.now) grid.now.width) }
 {
     check_entries::<D>(grid)?;
@@ -49,7 +46,6 @@ fn check_grid<D: Domain>(grid: &Grid<'_>) -> Result<(), Refusal>
 
 // What the table claims holds at the start and along every way.
 fn check_claims<D: Domain>(grid: &Grid<'_>) -> Result<(), Refusal>
-    requires { Readable (parts_in grid.now) }
     ensures { Meets result (claims_right D.Domain.ops grid.now) }
 {
     check_start::<D>(grid)?;
@@ -82,8 +78,6 @@ pub fn verdict<D: Domain>(bytes: &[u8]) -> Result<usize, Refusal>
     ensures value { Meets result (verdict_of D.Domain.ops bytes.now) }
     ensures safe { OnOk result (SafeSheet (as_dom D D.Domain.describes D.Domain.ops) bytes.now) }
 {
-    match taken::<D>(bytes) {
-        Ok(sheet) => Ok(sheet.places),
-        Err(refusal) => Err(refusal),
-    }
+    let sheet = taken::<D>(bytes)?;
+    Ok(sheet.places)
 }

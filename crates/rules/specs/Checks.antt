@@ -5,7 +5,7 @@ use Rattle.machine.specs.Runs.{row_on}
 use Rattle.machine.specs.declared.Input.{Input}
 use Rattle.machine.specs.declared.Row.{Row}
 use Rattle.machine.specs.declared.Row.TheVariants.{End, Put, Take, Work, Fork}
-use Rattle.sheet.specs.declared.refusals.Refusal.TheVariants.{StartUncovered, ZeroWarning, RangeWarning, EntryAbsent}
+use Rattle.sheet.specs.declared.refusals.Refusal.TheVariants.{StartAbsent, StartUncovered, ZeroWarning, RangeWarning, EntryAbsent}
 use Rattle.domain.specs.Model.{Ops}
 use Rattle.rules.specs.Claims.{Claims}
 use Rattle.rules.specs.Faults.{Fault, fixed, uncovered}
@@ -26,7 +26,7 @@ module _ {V : Type 0} (o : Ops V) (r : Routine) (claims : Claims V) where
   -- entry 0 is present, and its cells cover the value of 0
   abbrev pub start_right : Check Fault
   start_right =
-      and_then (unless (claims.present 0) (fixed (StartUncovered 16)))
+      and_then (unless (claims.present 0) (fixed StartAbsent))
       (λ _. up_to (λ x. unless (o.covers (claims.cell 0 x) (o.value (pos 0) (pos 0))) (fixed (StartUncovered x))) r.variables)
 
   -- a work row may not warn of zero, and then not of range

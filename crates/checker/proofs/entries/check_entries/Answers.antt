@@ -5,14 +5,14 @@ use Rattle.checker.specs.Grids.{shown}
 use Rattle.checker.proofs.Meeting.{exits, meets-ok, meets-stop}
 use Rattle.checker.proofs.entries.check_entries.Goals as goal
 
-pub returns-in_err-check_entry : goal.returns-in_err-check_entry
-returns-in_err-check_entry g c =
+pub returns-in_err-check : goal.returns-in_err-check
+returns-in_err-check g c =
     let f = entry_right g.D.Domain.ops (shown c.args.grid.now) in
     let p = err_from_is_err_and c.from_residual.result c.from_residual.ensures.1 in
     exits c.from_residual.result p.0 _ p.1 p.2 _
-    (meets-stop f c.loop-place.place _ _ c.loop-place.invariant c.in_err-check_entry.ensures c.loop-place-test.true)
+    (meets-stop f c.loop-place.place _ _ c.loop-place.invariant c.in_err-check.ensures c.loop-place-test.true)
 
 pub loop-place-preserved : goal.loop-place-preserved
 loop-place-preserved g c =
     let f = entry_right g.D.Domain.ops (shown c.args.grid.now) in
-    up_next f c.loop-place.place c.loop-place.invariant (meets-ok tt (f c.loop-place.place) c.in_ok-check_entry.ensures)
+    up_next f c.loop-place.place c.loop-place.invariant (meets-ok tt (f c.loop-place.place) c.in_ok-check.ensures)

@@ -10,7 +10,7 @@ returns-in_err-check_present g c =
     let f = place_checked g.D.Domain.ops c.args.grid.now in
     let p = err_from_is_err_and c.from_residual.result c.from_residual.ensures.1 in
     let places = c.args.grid.now.sheet.places in
-    let within : c.loop-place.place < places = omega (arith, c.loop-place-test.true, c.args.grid.now.some) in
+    let within : c.loop-place.place < places = omega (arith, c.loop-place-test.true) in
     exits c.from_residual.result p.0 _ p.1 p.2 _
     (meets-stop f c.loop-place.place places _ c.loop-place.invariant c.in_err-check_present.ensures within)
 
