@@ -1,5 +1,5 @@
 -- The inputs and the rows of a sheet that has been read. Assumes nothing.
-use Rattle.std.proofs.Common.{◌≡◌, ℕ, ◌<◌, ◌&&◌, ltb, List, get_or, Ok, subst, sym, ap, ◌∙◌}
+use Rattle.std.proofs.Common.{◌≡◌, ◌≢◌, ℕ, ◌+◌, ◌*◌, ◌<◌, ◌≤◌, ◌&&◌, ltb, List, length, get_or, Ok, Some, None, Option, MatchOption, subst, sym, ap, ◌∙◌, arith}
 use lib.Signed.{le_z}
 use Rattle.scan.specs.Scan.{chunk, passed, unless, up_to}
 use Rattle.scan.proofs.Scans.{stage, ok_same, up-each}
@@ -10,6 +10,7 @@ use Rattle.sheet.specs.Format.{Names, Proper}
 use Rattle.sheet.specs.Inputs.{input_at, input_in, input_of}
 use Rattle.sheet.specs.Parts.{Parts}
 use Rattle.sheet.specs.Rows.{limits, row_at, row_byte, row_in, row_of}
+use Rattle.sheet.specs.Sheets.{Width, NoWidth}
 use Rattle.sheet.specs.Sound.{Sound}
 use Rattle.sheet.specs.declared.refusals.Refusal.TheVariants.{InputRecord}
 use Rattle.sheet.proofs.Formed.{chunk-length, found-by}
@@ -47,3 +48,11 @@ input-read s i bytes sound h =
     let w = input-written i (chunk 9 i s.inputs.bytes)
     (chunk-length 9 s.input_count i s.inputs.bytes sound.fits.inputs h) bytes found.0 found.1 in
     record { read = found.1 ∙ ap Ok (sym is); proper = subst Proper (sym is) w.1 }
+
+-- the width of a cell, as it is found among 1 to 64
+pub width-of : (s : Parts) (r : Option ℕ)
+    → MatchOption r ((k : ℕ) → 1 ≤ k → k < 65 → length s.table.bytes ≢ s.places * (1 + s.variables * k))
+    (λ w. (1 ≤ w) × (w < 65) × (length s.table.bytes ≡ s.places * (1 + s.variables * w)) × ((k : ℕ) → 1 ≤ k → k < w → length s.table.bytes ≢ s.places * (1 + s.variables * k)))
+    → MatchOption r (NoWidth s) (Width s)
+width-of s None h = λ w fits. h w fits.least (omega (arith, fits.most)) fits.whole
+width-of s (Some w) h = record { least = h.0; most = omega (arith, h.1); whole = h.2 }

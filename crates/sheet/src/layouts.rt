@@ -11,7 +11,6 @@ use crate::inputs::read_input;
 use crate::parts::{Part, PartName, check_head, check_size, lay_out};
 use crate::refusals::Refusal;
 use crate::rows::{Counts, read_row};
-use scan::piece;
 
 /// The parts of a sheet, with the counts of its head.
 #[derive(Clone, Copy)]
@@ -72,11 +71,8 @@ impl<'a> Layout<'a> {
         requires { Fits (laid self.now) }
         ensures { result ≡ inputs_right (laid self.now) }
     {
-        for number in 0..self.input_count {
-            read_input(
-                number,
-                piece(self.inputs.bytes, 9, self.input_count, number),
-            )?;
+        for (number, record) in self.inputs.bytes.chunks_exact(9).enumerate() {
+            read_input(number, record)?;
         }
         Ok(())
     }
@@ -91,12 +87,8 @@ impl<'a> Layout<'a> {
             inputs: self.input_count,
             places: self.places,
         };
-        for place in 0..self.places {
-            read_row(
-                counts,
-                place,
-                piece(self.rows.bytes, 12, self.places, place),
-            )?;
+        for (place, record) in self.rows.bytes.chunks_exact(12).enumerate() {
+            read_row(counts, place, record)?;
         }
         Ok(())
     }

@@ -71,11 +71,7 @@ impl<'a> Sheet<'a> {
     pub fn cell_width(&self) -> Option<usize>
         ensures { MatchOption result (NoWidth (seen self.now)) (Width (seen self.now)) }
     {
-        for width in 1..=64 {
-            if self.table.bytes.len() == self.places * (1 + self.variables * width) {
-                return Some(width);
-            }
-        }
-        None
+        let size = self.table.bytes.len();
+        (1..65).find(|&width| size == self.places * (1 + self.variables * width))
     }
 }

@@ -1,11 +1,12 @@
-use Rattle.std.proofs.Common.{arith, below_more}
+use Rattle.std.proofs.Common.{◌≡◌, ◌≢◌, ◌+◌, ◌*◌, rules, length}
+use Rattle.std.proofs.lemmas.Iterator.{first_from_Range}
+use Rattle.sheet.specs.Views.{seen}
+use Rattle.sheet.proofs.Sounding.{width-of}
 use Rattle.sheet.proofs.views.Sheet.cell_width.Goals as goal
 
-pub loop-width-init : goal.loop-width-init
-loop-width-init c w h k = omega (arith, k.least)
-
-pub loop-width-preserved : goal.loop-width-preserved
-loop-width-preserved c = below_more _ _ c.loop-width.invariant (λ k. c.if-self-width.false k.whole)
-
 pub returns : goal.returns
-returns c w k = c.loop-width.invariant w (omega (arith, k.most)) k
+returns c =
+    let s = seen c.args.self.now in
+    width-of s c.find.result
+    (first_from_Range _ _ _ c.find.result (λ w. length s.table.bytes ≡ s.places * (1 + s.variables * w)) (λ w. length s.table.bytes ≢ s.places * (1 + s.variables * w))
+    c.find.ensures.ran (λ x q k. search rules) (λ x q k. search rules))
