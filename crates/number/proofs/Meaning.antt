@@ -1,6 +1,8 @@
 -- The rules of the operations and relations hold of their definitions. Assumes nothing.
-use Rattle.std.proofs.Common.{◌≡◌, ℕ, zero, suc, ◌/◌, Bool, true, false, not, ◌&&◌, ℤ, pos, negsuc, neg_ℤ, nat_abs, ◌≤ℤ◌, ◌<ℤ◌, Some, None, Ok, Err, Decides, Option, Result, sym, refl, ap, subst, inl, inr, ⊎_elim, arith}
+use Rattle.std.proofs.Common.{◌≡◌, ℕ, zero, suc, ◌/◌, Bool, true, false, not, ◌&&◌, ℤ, pos, negsuc, neg_ℤ, nat_abs, ◌≤ℤ◌, ◌<ℤ◌, Some, None, Ok, Err, Decides, Option, Result, sym, refl, ap, ◌∙◌, subst, inl, inr, ⊎_elim, arith}
 use lib.Signed.{quot_z}
+use Rattle.std.specs.Option.{ok_or}
+use Rattle.std.specs.Result.{result_ok}
 use Rattle.std.proofs.lemmas.Int.{ints}
 use Rattle.std.proofs.lemmas.Bool.{cases_Bool, both_ways}
 use Rattle.std.proofs.lemmas.Bool.Decides.{Decides-not, same_from_decides}
@@ -8,11 +10,12 @@ use Rattle.number.specs.declared.Op.{Op}
 use Rattle.number.specs.declared.Op.TheVariants.{Add, Sub, Mul, Div, IsLess, IsAtMost, IsEqual, IsUnequal}
 use Rattle.number.specs.declared.Relation.{Relation}
 use Rattle.number.specs.declared.Relation.TheVariants.{Less, AtMost, Equal, Unequal, Greater, AtLeast}
+use Rattle.number.specs.declared.codes.UnknownCode.{UnknownCode}
 use Rattle.number.specs.declared.Trap.{Trap}
 use Rattle.number.specs.declared.Trap.TheVariants.{Zero, Range}
 use Rattle.number.specs.Codes.{op_coded, relation_coded, op_code, relation_code}
 use Rattle.number.specs.Exact.{Int32, fits32, eq_z, holds, mirrored, opposite, exact, zero_trap, or_else, worked}
-use Rattle.number.specs.Means.{Related, Mirrors, Opposes, Decodes, DividesByZero, Answers, TowardZero}
+use Rattle.number.specs.Means.{Related, Mirrors, Opposes, Decodes, Reads, DividesByZero, Answers, TowardZero}
 use Rattle.number.proofs.Order.{decides-le, decides-lt, decides_eq, decides-fits, le_of_lt, lt_not_le, fits-from-test, test-from-fits, eq-from-test, test-from-eq}
 
 -- ---- relations
@@ -70,11 +73,11 @@ holds-opposite rel x y =
 
 -- ---- codes
 
-abbrev Back : {A : Type 0} → (A → ℕ) → ℕ → Option A → Type 0
+abbrev pub Back : {A : Type 0} → (A → ℕ) → ℕ → Option A → Type 0
 Back code_of code (Some x) = code_of x ≡ code
 Back code_of code None = (x : _) → code_of x ≡ code → ⊥
 
-decodes : {A : Type 0} (code_of : A → ℕ) (read : ℕ → Option A) → ((x : A) → read (code_of x) ≡ Some x) → ((code : ℕ) → Back code_of code (read code)) → (code : ℕ) → Decodes code_of code (read code)
+pub decodes : {A : Type 0} (code_of : A → ℕ) (read : ℕ → Option A) → ((x : A) → read (code_of x) ≡ Some x) → ((code : ℕ) → Back code_of code (read code)) → (code : ℕ) → Decodes code_of code (read code)
 decodes {A} code_of read forth back code =
     record {
       only = λ x. (λ e. subst (Back code_of code) e (back code), λ e. subst (λ n. read n ≡ Some x) e (forth x));
@@ -84,6 +87,15 @@ decodes {A} code_of read forth back code =
     nothing : (r : Option A) → Back code_of code r → ((x : A) → code_of x ≡ code → ⊥) → r ≡ None
     nothing (Some x) e n = absurd (n x e)
     nothing None e n = refl
+
+ok-of : {A : Type 0} (o : Option A) (e : UnknownCode) → result_ok (ok_or o e) ≡ o
+ok-of (Some x) e = refl
+ok-of None e = refl
+
+-- the same of a result
+pub reads : {A : Type 0} (code_of : A → ℕ) (coded : ℕ → Option A) → ((code : ℕ) → Decodes code_of code (coded code)) → (code : ℕ) (r : Result A UnknownCode) → r ≡ ok_or (coded code) (record { 0 = code }) → Reads code_of coded code r
+reads code_of coded d code r e =
+    record { value = e; means = subst (Decodes code_of code) (sym (ap result_ok e ∙ ok-of (coded code) (record { 0 = code }))) (d code) }
 
 op-forth : (x : Op) → op_coded (op_code x) ≡ Some x
 op-forth Add = refl
@@ -119,6 +131,9 @@ op-back (suc (suc (suc (suc (suc (suc (suc (suc n)))))))) = op-past n
 pub op-decodes : (code : ℕ) → Decodes op_code code (op_coded code)
 op-decodes = decodes op_code op_coded op-forth op-back
 
+pub op_reads : (code : ℕ) (r : Result Op UnknownCode) → r ≡ ok_or (op_coded code) (record { 0 = code }) → Reads op_code op_coded code r
+op_reads = reads op_code op_coded op-decodes
+
 relation-forth : (x : Relation) → relation_coded (relation_code x) ≡ Some x
 relation-forth Less = refl
 relation-forth AtMost = refl
@@ -146,6 +161,9 @@ relation-back (suc (suc (suc (suc (suc (suc n)))))) = relation-past n
 
 pub relation-decodes : (code : ℕ) → Decodes relation_code code (relation_coded code)
 relation-decodes = decodes relation_code relation_coded relation-forth relation-back
+
+pub relation_reads : (code : ℕ) (r : Result Relation UnknownCode) → r ≡ ok_or (relation_coded code) (record { 0 = code }) → Reads relation_code relation_coded code r
+relation_reads = reads relation_code relation_coded relation-decodes
 
 -- ---- what working answers
 

@@ -1,10 +1,13 @@
 -- The rules of the operations and relations, in plain statements about all integers. Assumes nothing.
 use Rattle.std.specs.Prelude.{◌≡◌, ℕ, ◌/◌, ◌↔◌, ℤ, pos, negsuc, ◌≤ℤ◌, ◌<ℤ◌, Some, None, Ok, Err, Option, Result, ◌≢◌, unsigned_abs}
+use Rattle.std.specs.Option.{ok_or}
+use Rattle.std.specs.Result.{result_ok}
 use Rattle.std.specs.Int.Signed.{non_neg}
 use Rattle.number.specs.declared.Op.{Op}
 use Rattle.number.specs.declared.Op.TheVariants.{Div}
 use Rattle.number.specs.declared.Relation.{Relation}
 use Rattle.number.specs.declared.Relation.TheVariants.{Less, AtMost, Equal, Unequal, Greater, AtLeast}
+use Rattle.number.specs.declared.codes.UnknownCode.{UnknownCode}
 use Rattle.number.specs.declared.Trap.{Trap}
 use Rattle.number.specs.declared.Trap.TheVariants.{Zero, Range}
 use Rattle.number.specs.Exact.{Int32, least, exact, worked}
@@ -30,6 +33,11 @@ Opposes rel other = (x y : ℤ) → Related other x y ↔ (Related rel x y → �
 pub record Decodes {A : Type 0} (code_of : A → ℕ) (code : ℕ) (r : Option A) : Type 0 where
   pub only : (x : A) → r ≡ Some x ↔ code_of x ≡ code
   pub none : r ≡ None ↔ ((x : A) → code_of x ≢ code)
+
+-- the same of a result: `coded` works the item out, and an error holds the code
+pub record Reads {A : Type 0} (code_of : A → ℕ) (coded : ℕ → Option A) (code : ℕ) (r : Result A UnknownCode) : Type 0 where
+  pub value : r ≡ ok_or (coded code) (record { 0 = code })
+  pub means : Decodes code_of code (result_ok r)
 
 -- a divisor is 0
 abbrev pub DividesByZero : Op → ℤ → Type 0

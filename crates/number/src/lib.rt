@@ -4,16 +4,18 @@
 #![tactic(auto)]
 
 ghost use Rattle.std.specs.Prelude.{◌≡◌, true, Decides};
-ghost use Rattle.number.specs.Codes.{op_code, op_coded, relation_code, relation_coded};
 ghost use Rattle.number.specs.Exact.{exact, worked, holds, mirrored as mirrored_relation, opposite as opposite_relation};
-ghost use Rattle.number.specs.Means.{Answers, Decodes, Mirrors, Opposes, Related, Examples};
+ghost use Rattle.number.specs.Means.{Answers, Mirrors, Opposes, Related, Examples};
 
+mod codes;
 mod signs;
 mod wide;
 
+pub use codes::UnknownCode;
+pub use signs::UnknownSign;
 pub use wide::{difference, fitted, product, quotient, sum, truth};
 
-/// An operation of a work row. The last four compare, and give 1 or 0.
+/// An operation of a work row, in the order of the codes. The last four compare, and give 1 or 0.
 #[derive(Clone, Copy, PartialEq, Eq, Debug)]
 pub enum Op {
     Add,
@@ -26,7 +28,7 @@ pub enum Op {
     IsUnequal,
 }
 
-/// A relation of a fork row.
+/// A relation of a fork row, in the order of the codes.
 #[derive(Clone, Copy, PartialEq, Eq, Debug)]
 pub enum Relation {
     Less,
@@ -45,24 +47,6 @@ pub enum Trap {
 }
 
 impl Op {
-    /// The operation of a code from 0 to 7.
-    pub fn from_code(code: u8) -> Option<Op>
-        ensures value { result ≡ op_coded code }
-        ensures means { Decodes op_code code result }
-    {
-        match code {
-            0 => Some(Op::Add),
-            1 => Some(Op::Sub),
-            2 => Some(Op::Mul),
-            3 => Some(Op::Div),
-            4 => Some(Op::IsLess),
-            5 => Some(Op::IsAtMost),
-            6 => Some(Op::IsEqual),
-            7 => Some(Op::IsUnequal),
-            _ => None,
-        }
-    }
-
     /// What the operation gives before its range is looked at; a quotient by 0 means nothing, and is 0.
     pub fn exact(self, a: i32, b: i32) -> i64
         ensures { result ≡ exact self a b }
@@ -101,22 +85,6 @@ impl Op {
 }
 
 impl Relation {
-    /// The relation of a code from 0 to 5.
-    pub fn from_code(code: u8) -> Option<Relation>
-        ensures value { result ≡ relation_coded code }
-        ensures means { Decodes relation_code code result }
-    {
-        match code {
-            0 => Some(Relation::Less),
-            1 => Some(Relation::AtMost),
-            2 => Some(Relation::Equal),
-            3 => Some(Relation::Unequal),
-            4 => Some(Relation::Greater),
-            5 => Some(Relation::AtLeast),
-            _ => None,
-        }
-    }
-
     /// Whether the relation holds between two integers.
     pub fn holds(self, a: i32, b: i32) -> bool
         ensures value { result ≡ holds self a b }

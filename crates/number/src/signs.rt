@@ -1,10 +1,20 @@
 // Operations and relations by their signs, as people write them.
+ghost use Rattle.std.specs.Prelude.{◌≡◌};
+ghost use Rattle.number.specs.Signs.{op_sign, relation_sign, SignRead};
+
 use crate::{Op, Relation};
 use std::fmt;
+use std::str::FromStr;
 
-impl fmt::Display for Op {
-    fn fmt<W: fmt::Write>(&self, f: &mut fmt::Formatter<W>) -> fmt::Result {
-        let sign = match self {
+/// A text that is no sign.
+#[derive(Clone, Copy, PartialEq, Eq, Debug)]
+pub struct UnknownSign;
+
+impl Op {
+    fn sign(self) -> &'static str
+        ensures { result.now ≡ op_sign self }
+    {
+        match self {
             Op::Add => "+",
             Op::Sub => "-",
             Op::Mul => "*",
@@ -13,21 +23,71 @@ impl fmt::Display for Op {
             Op::IsAtMost => "<=",
             Op::IsEqual => "=",
             Op::IsUnequal => "!=",
-        };
-        write!(f, "{sign}")
+        }
     }
 }
 
-impl fmt::Display for Relation {
+impl fmt::Display for Op {
     fn fmt<W: fmt::Write>(&self, f: &mut fmt::Formatter<W>) -> fmt::Result {
-        let sign = match self {
+        f.write_str(self.sign())
+    }
+}
+
+impl FromStr for Op {
+    type Err = UnknownSign;
+
+    ghost from_str_gives = { SignRead op_sign };
+
+    fn from_str(sign: &str) -> Result<Op, UnknownSign> {
+        match sign {
+            "+" => Ok(Op::Add),
+            "-" => Ok(Op::Sub),
+            "*" => Ok(Op::Mul),
+            "/" => Ok(Op::Div),
+            "<" => Ok(Op::IsLess),
+            "<=" => Ok(Op::IsAtMost),
+            "=" => Ok(Op::IsEqual),
+            "!=" => Ok(Op::IsUnequal),
+            _ => Err(UnknownSign),
+        }
+    }
+}
+
+impl Relation {
+    fn sign(self) -> &'static str
+        ensures { result.now ≡ relation_sign self }
+    {
+        match self {
             Relation::Less => "<",
             Relation::AtMost => "<=",
             Relation::Equal => "=",
             Relation::Unequal => "!=",
             Relation::Greater => ">",
             Relation::AtLeast => ">=",
-        };
-        write!(f, "{sign}")
+        }
+    }
+}
+
+impl fmt::Display for Relation {
+    fn fmt<W: fmt::Write>(&self, f: &mut fmt::Formatter<W>) -> fmt::Result {
+        f.write_str(self.sign())
+    }
+}
+
+impl FromStr for Relation {
+    type Err = UnknownSign;
+
+    ghost from_str_gives = { SignRead relation_sign };
+
+    fn from_str(sign: &str) -> Result<Relation, UnknownSign> {
+        match sign {
+            "<" => Ok(Relation::Less),
+            "<=" => Ok(Relation::AtMost),
+            "=" => Ok(Relation::Equal),
+            "!=" => Ok(Relation::Unequal),
+            ">" => Ok(Relation::Greater),
+            ">=" => Ok(Relation::AtLeast),
+            _ => Err(UnknownSign),
+        }
     }
 }

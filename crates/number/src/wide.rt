@@ -35,16 +35,12 @@ pub fn quotient(a: i32, b: i32) -> i64
 pub fn fitted(z: i64) -> Result<i32, Trap>
     ensures { result ≡ in_range z }
 {
-    if z < -2147483648 || z > 2147483647 {
-        Err(Trap::Range)
-    } else {
-        Ok(z as i32)
-    }
+    i32::try_from(z).or(Err(Trap::Range))
 }
 
 /// 1 where a comparison holds, else 0.
 pub fn truth(test: bool) -> i32
     ensures { result ≡ truth_of test }
 {
-    if test { 1 } else { 0 }
+    i32::from(test)
 }
