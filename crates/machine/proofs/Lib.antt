@@ -1,3 +1,4 @@
+pub mod KindRead
 pub mod Reached
 pub mod Rules
 pub mod Tells

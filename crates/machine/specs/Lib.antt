@@ -1,4 +1,5 @@
 pub mod Imp
 pub mod Inputs
+pub mod Kinds
 pub mod Runs
 pub mod Steps

@@ -3,11 +3,15 @@
 // A routine has 1 to 16 variables, 0 to 8 inputs and 1 to 256 places.
 #![tactic(auto)]
 
+ghost use Rattle.std.specs.Prelude.{◌≡◌};
+ghost use Rattle.machine.specs.Kinds.{kind_code, kind_coded};
+ghost use Rattle.number.specs.Means.{Reads};
+
 mod states;
 mod steps;
 mod words;
 
-use number::{Op, Relation};
+use number::{Op, Relation, UnknownCode};
 pub use states::{Outcome, State};
 pub use steps::{Act, steps_are_faithful};
 
@@ -58,6 +62,29 @@ pub enum Row {
 pub enum InputKind {
     Reading,
     Setting,
+}
+
+/// The kind of a code: 0 for a reading, 1 for a setting.
+impl TryFrom<u8> for InputKind {
+    type Error = UnknownCode;
+
+    ghost try_from_gives = { Reads kind_code kind_coded };
+
+    fn try_from(code: u8) -> Result<InputKind, UnknownCode> {
+        match code {
+            0 => Ok(InputKind::Reading),
+            1 => Ok(InputKind::Setting),
+            _ => Err(UnknownCode(code)),
+        }
+    }
+}
+
+impl From<InputKind> for u8 {
+    ghost from_gives = { λ kind code. code ≡ kind_code kind };
+
+    fn from(kind: InputKind) -> u8 {
+        kind as u8
+    }
 }
 
 /// An input: its kind, and its set, the integers from `lo` to `hi`.

@@ -5,9 +5,8 @@ use Rattle.std.proofs.Common.{of_z}
 use Rattle.scan.specs.Scan.{chunk}
 use Rattle.number.specs.Codes.{op_code, relation_code}
 use Rattle.number.specs.Exact.{Int32}
+pub use Rattle.machine.specs.Kinds.{kind_code}
 use Rattle.machine.specs.declared.Input.{Input}
-use Rattle.machine.specs.declared.InputKind.{InputKind}
-use Rattle.machine.specs.declared.InputKind.TheVariants.{Reading, Setting}
 use Rattle.machine.specs.declared.Row.{Row}
 use Rattle.machine.specs.declared.Row.TheVariants.{End, Put, Take, Work, Fork}
 use Rattle.sheet.specs.Parts.{Region, Parts, end_of, offset_of, length_of}
@@ -32,10 +31,6 @@ row_bytes (Work x op a b t) = 3 ∷ x ∷ op_code op ∷ a ∷ b ∷ t ∷ 0 ∷
 row_bytes (Fork rel a b t u) = 4 ∷ 0 ∷ relation_code rel ∷ a ∷ b ∷ t ∷ u ∷ 0 ∷ no_integer
 
 -- the 9 bytes of an input: kind, lo, hi
-abbrev pub kind_code : InputKind → ℕ
-kind_code Reading = 0
-kind_code Setting = 1
-
 abbrev pub input_bytes : Input → List ℕ
 input_bytes i = kind_code i.kind ∷ (integer_bytes i.lo ++ integer_bytes i.hi)
 

@@ -17,11 +17,7 @@ pub(crate) fn read_input(number: usize, bytes: &[u8]) -> Result<Input, Refusal>
     };
     let lo = i32::from_le_bytes([*l0, *l1, *l2, *l3]);
     let hi = i32::from_le_bytes([*h0, *h1, *h2, *h3]);
-    let kind = match *kind {
-        0 => InputKind::Reading,
-        1 => InputKind::Setting,
-        _ => return Err(Refusal::InputRecord { input: number }),
-    };
+    let kind = InputKind::try_from(*kind).or(Err(Refusal::InputRecord { input: number }))?;
     if lo > hi {
         return Err(Refusal::InputRecord { input: number });
     }

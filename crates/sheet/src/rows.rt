@@ -2,8 +2,6 @@
 // and n in four bytes.
 ghost use Rattle.std.specs.Prelude.{◌≡◌, length};
 ghost use Rattle.scan.specs.Scan.{up_to};
-ghost use Rattle.std.specs.Option.{unwrap_or};
-ghost use Rattle.number.specs.Codes.{op_coded, relation_coded};
 ghost use Rattle.sheet.specs.Bytes.{AllBytes};
 ghost use Rattle.sheet.specs.Rows.{limits, row_byte, row_in, row_of};
 
@@ -49,26 +47,7 @@ fn check_bytes(most: &[usize; 12], place: usize, bytes: &[u8]) -> Result<(), Ref
     Ok(())
 }
 
-// The operation or the relation of a code that is known to be one.
-fn op_of(code: u8) -> Op
-    ensures { result ≡ unwrap_or (op_coded code) Op.Add }
-{
-    match Op::from_code(code) {
-        Some(op) => op,
-        None => Op::Add,
-    }
-}
-
-fn relation_of(code: u8) -> Relation
-    ensures { result ≡ unwrap_or (relation_coded code) Relation.Less }
-{
-    match Relation::from_code(code) {
-        Some(relation) => relation,
-        None => Relation::Less,
-    }
-}
-
-// What the bytes of a row say.
+// What the bytes of a row say. A code that is none, which a row that was read has not, counts as 0.
 pub(crate) fn decode_row(bytes: &[u8]) -> Row
     requires { length bytes.now ≡ 12 }
     ensures value { result ≡ row_in bytes.now }
@@ -91,13 +70,13 @@ pub(crate) fn decode_row(bytes: &[u8]) -> Row
         },
         3 => Row::Work {
             target: *x,
-            op: op_of(*code),
+            op: Op::try_from(*code).unwrap_or(Op::Add),
             left: *a,
             right: *b,
             next: *t,
         },
         _ => Row::Fork {
-            relation: relation_of(*code),
+            relation: Relation::try_from(*code).unwrap_or(Relation::Less),
             left: *a,
             right: *b,
             next: *t,
