@@ -1,38 +1,8 @@
 // The bytes of a row and of an input.
 ghost use Rattle.std.specs.Prelude.{◌≡◌};
-ghost use Rattle.number.specs.Codes.{op_code, relation_code};
 ghost use Rattle.sheet.specs.Format.{row_bytes, input_bytes};
 
-use machine::{Input, InputKind, Row};
-use number::{Op, Relation};
-
-fn op_code(op: Op) -> u8
-    ensures { result ≡ op_code op }
-{
-    match op {
-        Op::Add => 0,
-        Op::Sub => 1,
-        Op::Mul => 2,
-        Op::Div => 3,
-        Op::IsLess => 4,
-        Op::IsAtMost => 5,
-        Op::IsEqual => 6,
-        Op::IsUnequal => 7,
-    }
-}
-
-fn relation_code(relation: Relation) -> u8
-    ensures { result ≡ relation_code relation }
-{
-    match relation {
-        Relation::Less => 0,
-        Relation::AtMost => 1,
-        Relation::Equal => 2,
-        Relation::Unequal => 3,
-        Relation::Greater => 4,
-        Relation::AtLeast => 5,
-    }
-}
+use machine::{Input, Row};
 
 /// The 12 bytes of a row: kind, x, code or input, a, b, t, u, 0, n.
 pub fn row_bytes(row: Row) -> [u8; 12]
@@ -59,7 +29,7 @@ pub fn row_bytes(row: Row) -> [u8; 12]
             left,
             right,
             next,
-        } => [3, target, op_code(op), left, right, next, 0, 0, 0, 0, 0, 0],
+        } => [3, target, u8::from(op), left, right, next, 0, 0, 0, 0, 0, 0],
         Row::Fork {
             relation,
             left,
@@ -67,7 +37,7 @@ pub fn row_bytes(row: Row) -> [u8; 12]
             next,
             otherwise,
         } => {
-            let code = relation_code(relation);
+            let code = u8::from(relation);
             [4, 0, code, left, right, next, otherwise, 0, 0, 0, 0, 0]
         }
     }
@@ -77,11 +47,7 @@ pub fn row_bytes(row: Row) -> [u8; 12]
 pub fn input_bytes(input: Input) -> [u8; 9]
     ensures { result ≡ input_bytes input }
 {
-    let kind = match input.kind {
-        InputKind::Reading => 0,
-        InputKind::Setting => 1,
-    };
     let [l0, l1, l2, l3] = input.lo.to_le_bytes();
     let [h0, h1, h2, h3] = input.hi.to_le_bytes();
-    [kind, l0, l1, l2, l3, h0, h1, h2, h3]
+    [u8::from(input.kind), l0, l1, l2, l3, h0, h1, h2, h3]
 }
