@@ -26,10 +26,7 @@ impl Counts {
                 count: self.variables,
             });
         }
-        match u8::try_from(variable) {
-            Ok(variable) => Ok(variable),
-            Err(_) => Err(Reason::VariableForm),
-        }
+        u8::try_from(variable).or(Err(Reason::VariableForm))
     }
 
     // The input that a word names.
@@ -40,48 +37,19 @@ impl Counts {
         if input >= self.inputs {
             return Err(Reason::InputMissing { count: self.inputs });
         }
-        match u8::try_from(input) {
-            Ok(input) => Ok(input),
-            Err(_) => Err(Reason::RowForm),
-        }
+        u8::try_from(input).or(Err(Reason::RowForm))
     }
 }
 
 // The place that a word names; whether there is such a place is known when all rows are.
 fn place(word: &str) -> Result<u8, Reason> {
     let place = number(word).ok_or(Reason::PlaceForm)?;
-    u8::try_from(place).ok().ok_or(Reason::PlaceForm)
+    u8::try_from(place).or(Err(Reason::PlaceForm))
 }
 
 // A word with the comma after it.
 fn listed(word: &str) -> Result<&str, Reason> {
     word.strip_suffix(',').ok_or(Reason::RowForm)
-}
-
-fn op_of(sign: &str) -> Result<Op, Reason> {
-    match sign {
-        "+" => Ok(Op::Add),
-        "-" => Ok(Op::Sub),
-        "*" => Ok(Op::Mul),
-        "/" => Ok(Op::Div),
-        "<" => Ok(Op::IsLess),
-        "<=" => Ok(Op::IsAtMost),
-        "=" => Ok(Op::IsEqual),
-        "!=" => Ok(Op::IsUnequal),
-        _ => Err(Reason::Operation),
-    }
-}
-
-fn relation_of(sign: &str) -> Result<Relation, Reason> {
-    match sign {
-        "<" => Ok(Relation::Less),
-        "<=" => Ok(Relation::AtMost),
-        "=" => Ok(Relation::Equal),
-        "!=" => Ok(Relation::Unequal),
-        ">" => Ok(Relation::Greater),
-        ">=" => Ok(Relation::AtLeast),
-        _ => Err(Reason::Relation),
-    }
 }
 
 /// The row that the words are. It names only variables and inputs that there are; its places are not looked at.
@@ -115,7 +83,7 @@ fn assignment_of(counts: Counts, target: u8, words: &[&str]) -> Result<Row, Reas
         [left, op, right, go, to, next] => Ok(Row::Work {
             target,
             left: counts.variable(left)?,
-            op: op_of(op)?,
+            op: op.parse::<Op>().or(Err(Reason::Operation))?,
             right: counts.variable(listed(right)?)?,
             next: way_of(go, to, next)?,
         }),
@@ -132,7 +100,7 @@ fn fork_of(counts: Counts, words: &[&str]) -> Result<Row, Reason>
     };
     Ok(Row::Fork {
         left: counts.variable(left)?,
-        relation: relation_of(relation)?,
+        relation: relation.parse::<Relation>().or(Err(Reason::Relation))?,
         right: counts.variable(right)?,
         next: way_of(go, to, next)?,
         otherwise: place(otherwise)?,
