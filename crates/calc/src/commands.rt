@@ -36,32 +36,6 @@ impl<D: Notation> fmt::Display for Answer<D> {
     }
 }
 
-fn op_of(sign: &str) -> Option<Op> {
-    match sign {
-        "+" => Some(Op::Add),
-        "-" => Some(Op::Sub),
-        "*" => Some(Op::Mul),
-        "/" => Some(Op::Div),
-        "<" => Some(Op::IsLess),
-        "<=" => Some(Op::IsAtMost),
-        "=" => Some(Op::IsEqual),
-        "!=" => Some(Op::IsUnequal),
-        _ => None,
-    }
-}
-
-fn relation_of(sign: &str) -> Option<Relation> {
-    match sign {
-        "<" => Some(Relation::Less),
-        "<=" => Some(Relation::AtMost),
-        "=" => Some(Relation::Equal),
-        "!=" => Some(Relation::Unequal),
-        ">" => Some(Relation::Greater),
-        ">=" => Some(Relation::AtLeast),
-        _ => None,
-    }
-}
-
 fn quiet<D: Copy>(value: Option<D>) -> Answer<D> {
     match value {
         Some(value) => Answer::Value(value, false, false),
@@ -73,7 +47,7 @@ fn work<D: Notation>(words: &[&str]) -> Option<Answer<D>> {
     let [a, sign, b] = words else {
         return None;
     };
-    let (value, zero, range) = D::work(op_of(sign)?, parsed::<D>(a)?, parsed::<D>(b)?);
+    let (value, zero, range) = D::work(sign.parse::<Op>().ok()?, parsed::<D>(a)?, parsed::<D>(b)?);
     Some(Answer::Value(value, zero, range))
 }
 
@@ -81,7 +55,11 @@ fn narrow<D: Notation>(words: &[&str]) -> Option<Answer<D>> {
     let [a, sign, b] = words else {
         return None;
     };
-    Some(quiet(D::narrow(parsed::<D>(a)?, relation_of(sign)?, parsed::<D>(b)?)))
+    Some(quiet(D::narrow(
+        parsed::<D>(a)?,
+        sign.parse::<Relation>().ok()?,
+        parsed::<D>(b)?,
+    )))
 }
 
 fn covers<D: Notation>(words: &[&str]) -> Option<Answer<D>> {
