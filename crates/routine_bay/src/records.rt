@@ -1,6 +1,9 @@
 // A list of calls in bytes: records of 12 bytes, and behind that of an offer its sheet.
 ghost use Rattle.std.specs.Prelude.{◌≡◌};
+ghost use Rattle.std.specs.Option.{ok_or};
 ghost use Rattle.routine_bay.specs.Records.{front, sheet_size, kind_of};
+
+use number::UnknownCode;
 
 /// The six calls, in the order of their codes.
 #[derive(Clone, Copy)]
@@ -22,19 +25,21 @@ pub struct Record {
     pub value: i32,
 }
 
-impl Kind {
-    // The call of a code from 0 to 5.
-    fn from_code(code: u8) -> Option<Kind>
-        ensures { result ≡ kind_of code }
-    {
+/// The call of a code from 0 to 5.
+impl TryFrom<u8> for Kind {
+    type Error = UnknownCode;
+
+    ghost try_from_gives = { λ code r. r ≡ ok_or (kind_of code) (record { 0 = code }) };
+
+    fn try_from(code: u8) -> Result<Kind, UnknownCode> {
         match code {
-            0 => Some(Kind::Offer),
-            1 => Some(Kind::Start),
-            2 => Some(Kind::Set),
-            3 => Some(Kind::Step),
-            4 => Some(Kind::Stop),
-            5 => Some(Kind::Show),
-            _ => None,
+            0 => Ok(Kind::Offer),
+            1 => Ok(Kind::Start),
+            2 => Ok(Kind::Set),
+            3 => Ok(Kind::Step),
+            4 => Ok(Kind::Stop),
+            5 => Ok(Kind::Show),
+            _ => Err(UnknownCode(code)),
         }
     }
 }
@@ -57,7 +62,7 @@ impl Record {
         let [kind, domain, _, _, n0, n1, n2, n3, v0, v1, v2, v3, ..] = list else {
             return None;
         };
-        let kind = Kind::from_code(*kind)?;
+        let kind = Kind::try_from(*kind).ok()?;
         let record = Record {
             kind,
             domain: *domain,
