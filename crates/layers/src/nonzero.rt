@@ -18,10 +18,7 @@ pub struct Nonzero<A> {
 fn marking_of<A: Copy>(marked: bool, inner: Option<A>) -> Option<Nonzero<A>>
     ensures { result ≡ marking marked inner }
 {
-    match inner {
-        Some(inner) => Some(Nonzero { marked, inner }),
-        None => None,
-    }
+    inner.map(|inner| Nonzero { marked, inner })
 }
 
 /// Whether what stands in the relation `rel` to what `b` describes cannot be 0:
@@ -93,32 +90,9 @@ impl<A: Domain> Domain for Nonzero<A> {
 
     fn work(op: Op, a: Self, b: Self) -> (Self, bool, bool) {
         let (inner, zero, range) = A::work(op, a.inner, b.inner);
-        match op {
-            Op::Mul => (
-                Nonzero {
-                    marked: a.marked & b.marked,
-                    inner,
-                },
-                zero,
-                range,
-            ),
-            Op::Div => (
-                Nonzero {
-                    marked: false,
-                    inner,
-                },
-                zero & !b.marked,
-                range,
-            ),
-            _ => (
-                Nonzero {
-                    marked: false,
-                    inner,
-                },
-                zero,
-                range,
-            ),
-        }
+        let marked = op == Op::Mul && a.marked && b.marked;
+        let zero = zero && !(op == Op::Div && b.marked);
+        (Nonzero { marked, inner }, zero, range)
     }
 
     fn narrow(a: Self, rel: Relation, b: Self) -> Option<Self> {

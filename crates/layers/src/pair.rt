@@ -18,10 +18,10 @@ pub struct Pair<A, B> {
 fn both_of<A: Copy, B: Copy>(first: Option<A>, second: Option<B>) -> Option<Pair<A, B>>
     ensures { result ≡ both_of first second }
 {
-    match (first, second) {
-        (Some(first), Some(second)) => Some(Pair { first, second }),
-        _ => None,
-    }
+    Some(Pair {
+        first: first?,
+        second: second?,
+    })
 }
 
 impl<A: Domain, B: Domain> Domain for Pair<A, B> {
