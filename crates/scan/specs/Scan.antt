@@ -1,5 +1,5 @@
 -- Checks in a row, and the first of them that refuses. Assumes nothing.
-use Rattle.std.specs.Prelude.{ℕ, zero, suc, ◌+◌, ◌*◌, Bool, true, false, List, take, drop, Ok, Err, Result, slice_index}
+use Rattle.std.specs.Prelude.{ℕ, zero, suc, ◌*◌, Bool, true, false, List, take, drop, Ok, Err, Result}
 
 -- one check after another: what the first refuses, else what the second answers (in code, `?`)
 abbrev pub and_then : {A B E : Type 0} → Result A E → (A → Result B E) → Result B E
@@ -27,9 +27,3 @@ up_to f (suc n) = and_then (up_to f n) (λ _. f n)
 -- record i of a list of records of one size
 abbrev pub chunk : {A : Type 0} → ℕ → ℕ → List A → List A
 chunk size i xs = take size (drop (i * size) xs)
-
--- the number in the eight bytes from a place on, the lowest first
-abbrev pub word8 : List ℕ → ℕ → ℕ
-word8 bs at =
-    slice_index bs at + slice_index bs (at + 1) * 256 + slice_index bs (at + 2) * 65536 + slice_index bs (at + 3) * 16777216
-    + (slice_index bs (at + 4) + slice_index bs (at + 5) * 256 + slice_index bs (at + 6) * 65536 + slice_index bs (at + 7) * 16777216) * 4294967296

@@ -4,7 +4,7 @@
 #![tactic(auto)]
 
 ghost use Rattle.std.specs.Prelude.{◌≡◌, ◌+◌, ◌*◌, ◌<◌, ◌≤◌, length, Decides};
-ghost use Rattle.scan.specs.Scan.{chunk, word8};
+ghost use Rattle.scan.specs.Scan.{chunk};
 
 /// The record at `index` of a part that holds `count` records of `size` bytes.
 pub fn piece(bytes: &[u8], size: usize, count: usize, index: usize) -> &[u8]
@@ -13,53 +13,40 @@ pub fn piece(bytes: &[u8], size: usize, count: usize, index: usize) -> &[u8]
     ensures value { result.now ≡ chunk size index bytes.now }
     ensures sized { length result.now ≡ size }
 {
-    let from = index * size;
-    let (_, rest) = bytes.split_at(from);
-    let (record, _) = rest.split_at(size);
-    record
+    &bytes[index * size..][..size]
 }
 
-// The number in the eight bytes from `at` on, the lowest first.
-fn word(bytes: &[u8], at: usize) -> u64
-    requires { at + 8 ≤ length bytes.now }
-    ensures { result ≡ word8 bytes.now at }
-{
-    let low = [bytes[at], bytes[at + 1], bytes[at + 2], bytes[at + 3]];
-    let high = [bytes[at + 4], bytes[at + 5], bytes[at + 6], bytes[at + 7]];
-    u32::from_le_bytes(low) as u64 + u32::from_le_bytes(high) as u64 * 4294967296
-}
-
-// The same of a few bytes, one at a time.
-fn same_few(a: &[u8], b: &[u8]) -> bool
-    requires { length a.now ≡ length b.now }
-    ensures { Decides result (a.now ≡ b.now) }
-{
-    for j in 0..a.len() {
-        if a[j] != b[j] {
-            return false;
-        }
-    }
-    true
-}
-
-/// Whether two records hold the same bytes. They are compared eight at a time, the last eight overlapping those before.
+/// Whether two records hold the same bytes. They are compared eight at a time, the last eight overlapping those before:
+/// `a == b` takes 2 to 20 times as long on cells of 8 to 28 bytes, whose length is a constant.
 pub fn same_bytes(a: &[u8], b: &[u8]) -> bool
     ensures { Decides result (a.now ≡ b.now) }
 {
     if a.len() != b.len() {
         return false;
     }
-    if a.len() < 8 {
-        return same_few(a, b);
+    match (a.last_chunk::<8>(), b.last_chunk::<8>()) {
+        (Some(a_last), Some(b_last)) => {
+            same_words(a.as_chunks::<8>().0, b.as_chunks::<8>().0) && same_word(a_last, b_last)
+        }
+        _ => a == b,
     }
-    for i in 0..a.len() / 8 {
-        if word(a, 8 * i) != word(b, 8 * i) {
+}
+
+// An index: over `zip` and `all` it was not proved that what passes for each pair passes for the whole.
+fn same_words(a: &[[u8; 8]], b: &[[u8; 8]]) -> bool
+    requires { length a.now ≡ length b.now }
+    ensures { Decides result (a.now ≡ b.now) }
+{
+    for i in 0..a.len() {
+        if !same_word(&a[i], &b[i]) {
             return false;
         }
     }
-    let last = a.len() - 8;
-    if word(a, last) != word(b, last) {
-        return false;
-    }
     true
+}
+
+fn same_word(a: &[u8; 8], b: &[u8; 8]) -> bool
+    ensures { Decides result (a.now ≡ b.now) }
+{
+    u64::from_le_bytes(*a) == u64::from_le_bytes(*b)
 }
