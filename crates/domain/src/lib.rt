@@ -46,6 +46,7 @@ pub trait Domain: Copy {
 
     /// What `op` gives on the integers that `a` and `b` describe, with two warnings:
     /// that the divisor may be 0, and that the result may not fit 32 bits.
+    // A tuple, and no struct with names: a rule of the project.
     fn work(op: Op, a: Self, b: Self) -> (Self, bool, bool)
         ensures { result ≡ ops.works op a b };
 

@@ -17,7 +17,7 @@ pub struct State {
 }
 
 /// How a step comes out: at the next place, at the end of the run, or with a trap at its place.
-#[derive(Clone, Copy)]
+#[derive(Clone, Copy, PartialEq, Eq, Debug)]
 pub enum Outcome {
     At { place: usize },
     Ended,
@@ -45,7 +45,7 @@ impl State {
     pub fn value(&self, x: usize) -> i32
         ensures { result ≡ look_up (shown self.now).locals x }
     {
-        if x < MAX_VARIABLES { self.values[x] } else { 0 }
+        self.values.get(x).copied().unwrap_or(0)
     }
 
     /// Takes the step of `row`, where a take takes `taken`, and says how it came out.
@@ -101,6 +101,7 @@ impl State {
         ensures values { self.new.values ≡ slice_set self.old.values target value }
         ensures place { self.new.place ≡ self.old.place }
     {
+        // An index: through `get_mut` it was not proved what the variables are then.
         if target < MAX_VARIABLES {
             self.values[target] = value;
         }

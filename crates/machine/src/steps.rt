@@ -10,7 +10,7 @@ use crate::Row;
 use number::{Op, Trap, difference, fitted, product, sum, truth};
 
 /// What a step does: it ends the run, sets a variable and goes on, or only goes on.
-#[derive(Clone, Copy)]
+#[derive(Clone, Copy, PartialEq, Eq, Debug)]
 pub enum Act {
     Stop,
     Assign { target: u8, value: i32, next: u8 },
@@ -23,13 +23,13 @@ impl Row {
         ensures { result ≡ operands_of self }
     {
         match self {
-            Row::Work { left, right, .. } => (left, right),
-            Row::Fork { left, right, .. } => (left, right),
+            Row::Work { left, right, .. } | Row::Fork { left, right, .. } => (left, right),
             _ => (0, 0),
         }
     }
 
     /// What the row does where its operands are `a` and `b` and a take takes `taken`.
+    // One match over kind and operation, with no call of `apply` between: a rule of the project.
     pub fn act(self, a: i32, b: i32, taken: i32) -> Result<Act, Trap>
         ensures { result ≡ act_of self a b taken }
     {
@@ -109,11 +109,12 @@ impl Row {
                 otherwise,
                 ..
             } => {
-                if relation.holds(a, b) {
-                    Ok(Act::Go { next })
+                let next = if relation.holds(a, b) {
+                    next
                 } else {
-                    Ok(Act::Go { next: otherwise })
-                }
+                    otherwise
+                };
+                Ok(Act::Go { next })
             }
         }
     }
@@ -128,12 +129,9 @@ pub fn steps_are_faithful()
 fn assigned(target: u8, res: Result<i32, Trap>, next: u8) -> Result<Act, Trap>
     ensures { result ≡ and_then res (λ z. Ok (Assign target z next)) }
 {
-    match res {
-        Ok(value) => Ok(Act::Assign {
-            target,
-            value,
-            next,
-        }),
-        Err(trap) => Err(trap),
-    }
+    res.map(|value| Act::Assign {
+        target,
+        value,
+        next,
+    })
 }
