@@ -4,27 +4,17 @@ ghost use Rattle.span.specs.Ends.{Covers, Within, covers, has, or_whole, read_sp
 
 use crate::Span;
 
-const LEAST: i64 = -2147483648;
-
-const GREATEST: i64 = 2147483647;
-
 impl Span {
     /// The span from `lo` to `hi`, if they are its ends: in order, and of 32 bits.
     pub fn between(lo: i64, hi: i64) -> Option<Span>
         ensures { result ≡ spanned lo hi }
     {
-        if lo < LEAST {
-            return None;
-        }
         if hi < lo {
             return None;
         }
-        if hi > GREATEST {
-            return None;
-        }
         Some(Span {
-            lo: lo as i32,
-            hi: hi as i32,
+            lo: i32::try_from(lo).ok()?,
+            hi: i32::try_from(hi).ok()?,
         })
     }
 
@@ -49,10 +39,7 @@ impl Span {
     pub(crate) fn or_whole(span: Option<Span>) -> Span
         ensures { result ≡ or_whole span }
     {
-        match span {
-            Some(span) => span,
-            None => Span::whole(),
-        }
+        span.unwrap_or(Span::whole())
     }
 
     /// The span from `lo` to `hi`, or every integer where `lo > hi`.
@@ -67,6 +54,7 @@ impl Span {
         ensures value { result ≡ has self z }
         ensures means { Decides result (Within self z) }
     {
+        // Two tests: through `contains` of a range the clause `means` was not proved.
         self.lo <= z && z <= self.hi
     }
 

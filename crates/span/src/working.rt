@@ -1,24 +1,11 @@
 // Operations on spans.
 ghost use Rattle.std.specs.Prelude.{◌≡◌, ◌&&◌, negsuc};
-ghost use Rattle.std.specs.Int.{int_min, int_max};
 ghost use Rattle.number.specs.Exact.{exact, least};
 ghost use Rattle.span.specs.Ends.{has};
 ghost use Rattle.span.specs.Works.{always, cornered, highest, judged, lowest, ranged, warned, works};
 
 use crate::Span;
 use number::{Op, Relation};
-
-fn least_of(w: i64, x: i64, y: i64, z: i64) -> i64
-    ensures { result ≡ int_min (int_min w x) (int_min y z) }
-{
-    w.min(x).min(y.min(z))
-}
-
-fn greatest_of(w: i64, x: i64, y: i64, z: i64) -> i64
-    ensures { result ≡ int_max (int_max w x) (int_max y z) }
-{
-    w.max(x).max(y.max(z))
-}
 
 /// The least and the greatest result over the four pairs of ends.
 fn corners(op: Op, a: Span, b: Span) -> (i64, i64)
@@ -29,7 +16,7 @@ fn corners(op: Op, a: Span, b: Span) -> (i64, i64)
     let x = op.exact(a.lo, b.hi);
     let y = op.exact(a.hi, b.lo);
     let z = op.exact(a.hi, b.hi);
-    (least_of(w, x, y, z), greatest_of(w, x, y, z))
+    (w.min(x).min(y.min(z)), w.max(x).max(y.max(z)))
 }
 
 /// The span between the corners, if they are of 32 bits.
@@ -59,12 +46,12 @@ fn judged(rel: Relation, a: Span, b: Span) -> Span
     ensures { result ≡ judged rel a b }
 {
     if always(rel, a, b) {
-        return Span::value(1, 1);
+        Span::value(1, 1)
+    } else if always(rel.opposite(), a, b) {
+        Span::value(0, 0)
+    } else {
+        Span::value(0, 1)
     }
-    if always(rel.opposite(), a, b) {
-        return Span::value(0, 0);
-    }
-    Span::value(0, 1)
 }
 
 /// A sum, difference or product: the span between the corners, or the range warning.
