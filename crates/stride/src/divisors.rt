@@ -26,7 +26,7 @@ pub fn is_multiple(divisor: u16, n: u64) -> bool
     match divisor {
         0 => n == 0,
         1 => true, // no division: most strides in a table are "anything"
-        _ => n % divisor as u64 == 0,
+        _ => n % u64::from(divisor) == 0,
     }
 }
 

@@ -12,11 +12,11 @@ impl Stride {
     pub fn new(modulus: u16, remainder: i32) -> Option<Stride>
         ensures { result ≡ made modulus remainder }
     {
-        let reduced = (0 <= remainder) & (remainder < modulus as i32);
-        if modulus == 0 || reduced {
-            return Some(Stride { modulus, remainder });
+        if modulus == 0 || (0..i32::from(modulus)).contains(&remainder) {
+            Some(Stride { modulus, remainder })
+        } else {
+            None
         }
-        None
     }
 
     /// The modulus; 0 where the stride is constant.
@@ -47,10 +47,7 @@ impl Stride {
     pub(crate) fn strided(modulus: u16, remainder: i32) -> Stride
         ensures { result ≡ strided_of modulus remainder }
     {
-        match Stride::new(modulus, remainder) {
-            Some(stride) => stride,
-            None => Stride::whole(),
-        }
+        Stride::new(modulus, remainder).unwrap_or(Stride::whole())
     }
 
     /// The integers from `lo` to `hi`: one is constant, and of more nothing is known.
@@ -58,9 +55,10 @@ impl Stride {
         ensures { result ≡ value lo hi }
     {
         if lo == hi {
-            return Stride::strided(0, lo);
+            Stride::strided(0, lo)
+        } else {
+            Stride::whole()
         }
-        Stride::whole()
     }
 }
 
@@ -69,7 +67,7 @@ pub fn covering(a: Stride, b: Stride) -> bool
     ensures { result ≡ covers a b }
 {
     let apart = difference(b.remainder, a.remainder).unsigned_abs();
-    is_multiple(a.modulus, b.modulus as u64) && is_multiple(a.modulus, apart)
+    is_multiple(a.modulus, u64::from(b.modulus)) && is_multiple(a.modulus, apart)
 }
 
 /// What the operation gives on two strides, with the zero warning and the range warning.
@@ -77,23 +75,23 @@ pub fn working(op: Op, a: Stride, b: Stride) -> (Stride, bool, bool)
     ensures { result ≡ works op a b }
 {
     if a.modulus == 0 && b.modulus == 0 {
-        return work_constants(op, a.remainder, b.remainder);
+        work_constants(op, a.remainder, b.remainder)
+    } else {
+        work_moving(op, gcd(a.modulus, b.modulus), a.remainder, b.remainder)
     }
-    work_moving(op, gcd(a.modulus, b.modulus), a.remainder, b.remainder)
 }
 
 /// What is left of `a` where it stands in the relation `rel` to `b`.
 pub fn narrowing(a: Stride, rel: Relation, b: Stride) -> Option<Stride>
     ensures { result ≡ narrows a rel b }
 {
-    let equal = matches!(rel, Relation::Equal);
-    if equal && covering(a, b) {
-        return Some(b);
+    if rel == Relation::Equal && covering(a, b) {
+        Some(b)
+    } else if a.modulus == 0 && b.modulus == 0 && !rel.holds(a.remainder, b.remainder) {
+        None
+    } else {
+        Some(a)
     }
-    if a.modulus == 0 && b.modulus == 0 && !rel.holds(a.remainder, b.remainder) {
-        return None;
-    }
-    Some(a)
 }
 
 /// Two constants are worked exactly, and warn exactly where they trap.

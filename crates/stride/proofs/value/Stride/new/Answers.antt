@@ -1,13 +1,18 @@
-use Rattle.std.proofs.Common.{sym, arith, w32, to_z, of_z}
-use Rattle.std.proofs.lemmas.Int.{to_z-of_z, to_z_pos}
+use Rattle.std.proofs.Common.{◌∙◌, sym, w32, to_z, of_z, rules}
+use Rattle.std.proofs.lemmas.Int.{to_z-of_z}
+use Rattle.std.proofs.lemmas.Bool.{both_ways, eq-eqb}
 use Rattle.stride.specs.Made.{some-made, made-breaks, breaks}
+use Rattle.stride.proofs.value.Stride.new.Goals.{then-modulus-eq0, else-modulus-eq0}
 use Rattle.stride.proofs.value.Stride.new.Goals as goal
 
-pub returns-then-modulus-eq0 : goal.returns-then-modulus-eq0
-returns-then-modulus-eq0 c = some-made c.args.modulus c.args.remainder (to_z w32 (of_z w32 c.args.remainder)) _ (to_z-of_z w32 c.args.remainder c.ranges.remainder)
+pub returns-then-contains : goal.returns-then-contains
+returns-then-contains c = some-made c.args.modulus c.args.remainder (to_z w32 (of_z w32 c.args.remainder)) _ (to_z-of_z w32 c.args.remainder c.ranges.remainder)
 
-pub returns : goal.returns
-returns c =
+pub returns-else-contains : goal.returns-else-contains
+returns-else-contains c =
     let m = c.args.modulus in
     let r = c.args.remainder in
-    sym (made-breaks m r (breaks m r (to_z w32 (of_z w32 r)) (to_z w32 m) (to_z-of_z w32 r c.ranges.remainder) (to_z_pos w32 m (omega arith)) c.if-modulus-eq0.false c.if-reduced.false))
+    elim c.if-modulus-eq0.branch [
+      | then-modulus-eq0 w ↦ absurd (both_ways _ c.if-contains.false (w.value-is ∙ eq-eqb m 0 w.if-modulus-eq0.true))
+      | else-modulus-eq0 w ↦ sym (made-breaks m r (breaks m r (to_z w32 (of_z w32 r)) (to_z w32 (of_z w32 w.from.result)) (to_z-of_z w32 r c.ranges.remainder) (to_z-of_z w32 w.from.result (search rules) ∙ w.from.ensures) w.if-modulus-eq0.false (sym w.contains.ensures.value ∙ sym w.value-is ∙ c.if-contains.false)))
+    ]
