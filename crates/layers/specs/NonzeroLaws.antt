@@ -1,11 +1,11 @@
 -- Nonzero over a lawful domain is lawful. Assumes nothing but the laws below.
-use Rattle.std.specs.Prelude.{◌≡◌, ℕ, zero, suc, ◌+◌, ◌-◌, ◌*◌, ◌<◌, ◌≤◌, Bool, true, false, cond, not, ◌||◌, ◌≢◌, List, [], ◌∷◌, map, length, take, drop, ℤ, pos, negsuc, ◌*ℤ◌, neg_ℤ, ◌≤ℤ◌, ◌<ℤ◌, is_some, Some, None, Option, ◌==◌, slice_index, unsigned_abs, refl}
+use Rattle.std.specs.Prelude.{◌≡◌, ℕ, suc, ◌+◌, ◌-◌, ◌<◌, ◌≤◌, Bool, true, false, cond, not, ◌||◌, ◌≢◌, List, [], ◌∷◌, map, length, take, drop, ℤ, pos, ◌*ℤ◌, ◌≤ℤ◌, ◌<ℤ◌, is_some, Some, None, Option, ◌==◌, slice_index, unsigned_abs, refl}
 use Rattle.std.proofs.Math.Bool.{not-or_self}
 use Rattle.std.proofs.Common.{⊎_elim, sym, ap, ap₂, ◌∙◌, mul-pos, arith, take_all}
 use Rattle.std.specs.Int.Signed.{≤ℤ_refl}
 use Rattle.std.specs.List.{range_with_len}
 use Rattle.std.proofs.lemmas.List.FromFn.{length-map-range_with_len, get_or-map-range_with_len, fill_by_all}
-use Rattle.std.proofs.lemmas.Int.{ints}
+use Rattle.std.proofs.lemmas.Int.{ints, unsigned_abs-mul}
 use Rattle.std.proofs.lemmas.Bool.{false≢true, and_parts, and_from, and_cases, and_right, or_cases, or_left, or_right, or_from, not-true, not-false, both_ways, eq-eqb, ne_eqb, le-ltb, cond-true, cond-false, cases_eq}
 use Rattle.std.proofs.lemmas.Bool.Decides.{nat_tests}
 use Rattle.number.specs.Exact.{Int32, eq_z, exact, holds}
@@ -33,21 +33,11 @@ away lo hi z h i e = grind (arith, ints)
 none-away : (lo hi : ℤ) → hi <ℤ lo → away_from0 lo hi ≡ false
 none-away lo hi h = grind (arith, ints)
 
-unsigned_abs-neg : (n : ℕ) → unsigned_abs (neg_ℤ (pos n)) ≡ n
-unsigned_abs-neg zero = refl
-unsigned_abs-neg (suc n) = refl
-
-unsigned_abs-times : (x y : ℤ) → unsigned_abs (x *ℤ y) ≡ unsigned_abs x * unsigned_abs y
-unsigned_abs-times (pos a) (pos b) = refl
-unsigned_abs-times (pos a) (negsuc b) = unsigned_abs-neg (a * suc b)
-unsigned_abs-times (negsuc a) (pos b) = unsigned_abs-neg (suc a * b)
-unsigned_abs-times (negsuc a) (negsuc b) = refl
-
 unsigned_abs-ne : (z : ℤ) → z ≢ pos 0 → 0 < unsigned_abs z
 unsigned_abs-ne z h = omega (arith, ints)
 
 times-ne : (x y : ℤ) → x ≢ pos 0 → y ≢ pos 0 → x *ℤ y ≢ pos 0
-times-ne x y h i e = omega (arith, mul-pos (unsigned_abs-ne x h) (unsigned_abs-ne y i), unsigned_abs-times x y, ap unsigned_abs e)
+times-ne x y h i e = omega (arith, mul-pos (unsigned_abs-ne x h) (unsigned_abs-ne y i), unsigned_abs-mul x y, ap unsigned_abs e)
 
 -- if the left is marked and it covers, the right is marked
 mark-covered : (a b : Bool) → (not a || b) ≡ true → a ≡ true → b ≡ true

@@ -1,9 +1,9 @@
 -- Tests of multiples, and the size of a common divisor. Assumes nothing.
-use Rattle.std.specs.Prelude.{◌≡◌, ℕ, zero, suc, ◌*◌, ◌/◌, ◌%◌, ◌<◌, ◌≤◌, true, ◌⊎◌, ℤ, pos, negsuc, ◌-ℤ◌, ◌*ℤ◌, neg_ℤ, ◌≢◌, unsigned_abs, refl}
+use Rattle.std.specs.Prelude.{◌≡◌, ℕ, suc, ◌*◌, ◌/◌, ◌%◌, ◌<◌, ◌≤◌, true, ◌⊎◌, ℤ, pos, negsuc, ◌-ℤ◌, ◌*ℤ◌, neg_ℤ, ◌≢◌, unsigned_abs, refl}
 use Rattle.std.proofs.Common.{inl, inr, ⊎_elim, sym, ap, subst, ◌∙◌, arith}
 use Rattle.std.specs.Int.{◌∣◌}
 use Rattle.std.proofs.Math.Nat.{dvd-mul_right, mod-eq-zero_of_dvd, dvd_of_mod-eq-zero, eq-zero_of_zero-dvd, le_of_dvd, mul-div_cancel'}
-use Rattle.std.proofs.lemmas.Int.{ints}
+use Rattle.std.proofs.lemmas.Int.{unsigned_abs-mul, ints}
 use Rattle.std.proofs.lemmas.Bool.{eqb-true, eq-eqb, cases_eq}
 use Rattle.arith.specs.Residues.{Congruent, gcd}
 use Rattle.arith.proofs.Products.{times-neg}
@@ -28,18 +28,10 @@ from-difference m x y (negsuc n) e h =
 pub congruent-from : (m : ℕ) (x y : ℤ) → m ∣ unsigned_abs (x -ℤ y) → Congruent m x y
 congruent-from m x y h = from-difference m x y (x -ℤ y) refl h
 
-unsigned_abs-neg : (n : ℕ) → unsigned_abs (neg_ℤ (pos n)) ≡ n
-unsigned_abs-neg zero = refl
-unsigned_abs-neg (suc n) = refl
-
-unsigned_abs-times : (m : ℕ) (k : ℤ) → unsigned_abs (pos m *ℤ k) ≡ m * unsigned_abs k
-unsigned_abs-times m (pos n) = refl
-unsigned_abs-times m (negsuc n) = unsigned_abs-neg (m * suc n)
-
 pub congruent-to : (m : ℕ) (x y : ℤ) → Congruent m x y → m ∣ unsigned_abs (x -ℤ y)
 congruent-to m x y (k, e) =
     let d : x -ℤ y ≡ pos m *ℤ k = omega (arith, ints, e) in
-    subst (λ n. m ∣ n) (sym (ap unsigned_abs d ∙ unsigned_abs-times m k)) (dvd-mul_right m (unsigned_abs k))
+    subst (λ n. m ∣ n) (sym (ap unsigned_abs d ∙ unsigned_abs-mul (pos m) k)) (dvd-mul_right m (unsigned_abs k))
 
 pub gcd-greatest : (a b : ℕ) → Greatest a b (gcd a b)
 gcd-greatest a b = record { first = gcd-divides-left a b; second = gcd-divides-right a b; greatest = every-divides a b }
