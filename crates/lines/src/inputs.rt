@@ -17,9 +17,7 @@ pub fn input_of(words: &[&str]) -> Result<Input, Reason>
         "setting" => InputKind::Setting,
         _ => return Err(Reason::InputForm),
     };
-    let Some((lo, hi)) = set.split_once("..") else {
-        return Err(Reason::InputForm);
-    };
+    let (lo, hi) = set.split_once("..").ok_or(Reason::InputForm)?;
     let lo = integer(lo).ok_or(Reason::Integer)?;
     let hi = integer(hi).ok_or(Reason::Integer)?;
     if lo > hi {
