@@ -1,18 +1,17 @@
 -- What a draft comes to, and what a line does to it. Assumes nothing.
-use Rattle.std.specs.Prelude.{◌≡◌, ℕ, ◌+◌, ◌≤◌, ◌⊎◌, Bool, true, false, List, [], ◌∷◌, ◌++◌, length, slice_index_or, All, ◌≤ℤ◌, vec_items}
+use Rattle.std.specs.Prelude.{◌≡◌, ℕ, ◌+◌, ◌≤◌, ◌⊎◌, true, false, List, [], ◌∷◌, ◌++◌, map, length, slice_index_or, All, ◌≤ℤ◌, vec_items}
 use Rattle.lines.specs.Known.{Known}
 use Rattle.lines.specs.declared.mistakes.Reason.{Reason}
-use Rattle.lines.specs.declared.mistakes.Reason.TheVariants.{PlaceMissing, Memory}
+use Rattle.lines.specs.declared.mistakes.Reason.TheVariants.{PlaceMissing}
 use Rattle.sheet.specs.Format.{WellFormed}
 use Rattle.sheet.specs.Parts.{Parts}
 use Rattle.writing.specs.Laid.{laid_out}
 use Rattle.text.specs.declared.drafts.Draft.{Draft}
-use Rattle.text.specs.declared.drafts.Stage.{Stage}
-use Rattle.text.specs.declared.drafts.Stage.TheVariants.{Start, Inputs, Rows, Table}
+use Rattle.text.specs.Counted.{begun, IsLine}
 
 -- what the draft holds, laid out as the parts of a sheet
 abbrev pub drafted : Draft → Parts
-drafted d = laid_out d.variables (vec_items d.inputs) (vec_items d.rows) (vec_items d.table)
+drafted d = laid_out d.variables (vec_items d.inputs) (map (λ r. r.row) (vec_items d.rows)) (vec_items d.table)
 
 -- the bytes are a well-formed sheet
 abbrev pub IsSheet : List ℕ → Type 0
@@ -21,13 +20,6 @@ IsSheet bs = (s : Parts) × WellFormed bs s
 -- no variable, no input, no row and no byte of a table, laid out
 abbrev pub nothing : Parts
 nothing = laid_out 0 [] [] []
-
--- whether the variables are counted
-abbrev pub begun : Stage → Bool
-begun Start = false
-begun Inputs = true
-begun Rows = true
-begun (Table cells) = true
 
 -- neither the variables nor a line nor an entry is counted
 abbrev pub NoneCounted : Draft → Type 0
@@ -43,7 +35,7 @@ OneInput old new = OneMore (λ i. i.lo ≤ℤ i.hi) (vec_items old.inputs) (vec_
 
 -- one row more, which names only variables and inputs that there are
 abbrev pub OneRow : Draft → Draft → Type 0
-OneRow old new = OneMore (Known old.variables (length (vec_items old.inputs))) (vec_items old.rows) (vec_items new.rows)
+OneRow old new = OneMore (λ r. Known old.variables (length (vec_items old.inputs)) r.row) (vec_items old.rows) (vec_items new.rows)
 
 abbrev pub SameInputs : Draft → Draft → Type 0
 SameInputs old new = vec_items new.inputs ≡ vec_items old.inputs
@@ -70,23 +62,15 @@ pub data Grows (old new : Draft) : Type 0 where
   row_more : begun old.stage ≡ true → SameInputs old new → OneRow old new → SameEntries old new → Grows old new
   entry_more : begun old.stage ≡ true → SameInputs old new → SameRows old new → new.entries ≡ old.entries + 1 → Grows old new
 
--- the same inputs and as many entries, and the same rows unless the memory ran out
-abbrev pub AddsNothing : Draft → Draft → Reason → Type 0
-AddsNothing old new reason = SameInputs old new × SameEntries old new × ((reason ≡ Memory → ⊥) → SameRows old new)
-
--- the number of a line, where so many are counted
-abbrev pub IsLine : ℕ → ℕ → Type 0
-IsLine count n = (1 ≤ n) × (n ≤ count)
+-- the same inputs, the same rows and as many entries
+abbrev pub AddsNothing : Draft → Draft → Type 0
+AddsNothing old new = SameInputs old new × SameRows old new × SameEntries old new
 
 -- each row is from a line that is counted
 abbrev pub IsNumbered : Draft → Type 0
-IsNumbered d = All (IsLine d.lines) (vec_items d.row_lines)
-
--- the count of lines, and the lines that the rows are from
-abbrev pub SameLines : Draft → Draft → Type 0
-SameLines old new = (new.lines ≡ old.lines) × (vec_items new.row_lines ≡ vec_items old.row_lines)
+IsNumbered d = All (λ r. IsLine d.lines r.line) (vec_items d.rows)
 
 -- the line that a mistake is told with: that of the row that goes to no place, else the last one
 abbrev pub IsToldLine : Draft → Reason → ℕ → Type 0
-IsToldLine d reason n = ((k count : ℕ) → reason ≡ PlaceMissing k count → n ≡ slice_index_or (vec_items d.row_lines) k d.lines)
+IsToldLine d reason n = ((k count : ℕ) → reason ≡ PlaceMissing k count → n ≡ slice_index_or (map (λ r. r.line) (vec_items d.rows)) k d.lines)
     × (((k count : ℕ) → reason ≡ PlaceMissing k count → ⊥) → n ≡ d.lines)

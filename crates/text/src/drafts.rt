@@ -1,14 +1,16 @@
 // A sheet in the making, line by line.
-ghost use Rattle.std.specs.Prelude.{◌≡◌, ◌≤◌, ◌+◌, ◌-◌, ◌^◌, ◌⊎◌, true, min, IfOk, IfErr, OnOk, OnErr};
+ghost use Rattle.std.specs.Prelude.{◌≡◌, ◌≤◌, ◌<◌, ◌+◌, ◌^◌, ◌-◌, ◌≤ℤ◌, true, false, map, length, vec_items, min, All, IfOk, IfErr, OnOk, OnErr};
+ghost use Rattle.std.proofs.Props.{props};
+ghost use Rattle.lines.specs.Known.{Known};
 ghost use Rattle.widening.specs.Widened.{sheet_bytes};
-ghost use Rattle.text.specs.Drafts.{drafted, IsSheet, nothing, NoneCounted, OneInput, OneRow, SameEntries, begun, SameInputs, SameRows, KeepsVariables, Grows, AddsNothing, CountsVariables, IsLine, IsToldLine, IsNumbered, SameLines};
+ghost use Rattle.text.specs.Counted.{begun, IsLine};
 
 use crate::entries::{cells_of, push_entry};
 use lines::{Counts, Mistake, Reason, input_of, numbered, row_of, words_of};
 use machine::{Input, MAX_INPUTS, MAX_PLACES, MAX_VARIABLES, Row};
 use notation::{Cells, number};
 use sheet::Sheet;
-use std::alloc::Global;
+use std::alloc::{AllocError, Global};
 use writing::sheet_bytes;
 
 // The part of the text that the last line was of.
@@ -20,17 +22,25 @@ enum Stage {
     Table(Cells),
 }
 
+// A row, and the number of the line that it is from.
+#[derive(Clone, Copy)]
+struct NumberedRow {
+    row: Row,
+    line: usize,
+}
+
 // Whether each place that a row goes to is among so many.
 fn has_places(row: Row, count: usize) -> bool {
     match row {
         Row::End => true,
-        Row::Put { next, .. } | Row::Take { next, .. } | Row::Work { next, .. } => (next as usize)
-            < count,
+        Row::Put { next, .. } | Row::Take { next, .. } | Row::Work { next, .. } => {
+            usize::from(next) < count
+        }
         Row::Fork {
             next,
             otherwise,
             ..
-        } => (next as usize) < count && (otherwise as usize) < count,
+        } => usize::from(next.max(otherwise)) < count,
     }
 }
 
@@ -42,13 +52,18 @@ pub struct Draft {
     stage: Stage,
     variables: usize,
     inputs: Vec<Input>,
-    rows: Vec<Row>,
-    row_lines: Vec<usize>,
+    rows: Vec<NumberedRow>,
     entries: usize,
     table: Vec<u8>,
+
+    // The variables are 1 to 16 once they are counted, and each row is from a line that is counted.
+    ghost counted: { begun stage ≡ true → (1 ≤ variables) × (variables ≤ 16) },
+    ghost numbered: { All (λ r. IsLine lines r.line) (vec_items rows) } by { Prim.hlevel props },
 }
 
 impl Draft {
+    ghost use Rattle.text.specs.Drafts.{drafted, IsSheet, nothing, NoneCounted, KeepsVariables, Grows, AddsNothing, CountsVariables, IsToldLine, IsNumbered};
+
     /// A draft of which no line is known.
     pub fn new(heap: Global) -> Draft
         ensures holds { drafted result ≡ nothing }
@@ -62,7 +77,6 @@ impl Draft {
             variables: 0,
             inputs: Vec::new(heap),
             rows: Vec::new(heap),
-            row_lines: Vec::new(heap),
             entries: 0,
             table: Vec::new(heap),
         }
@@ -71,14 +85,14 @@ impl Draft {
     // What is wrong with its line: that of a row that goes to no place, else the last.
     fn mistake(&self, reason: Reason) -> Mistake
         ensures reason { result.reason ≡ reason }
-        ensures line { 1 ≤ self.now.lines → IsNumbered self.now → IsLine self.now.lines result.line }
+        ensures line { 1 ≤ self.now.lines → IsLine self.now.lines result.line }
         ensures told { 1 ≤ self.now.lines → IsToldLine self.now result.reason result.line }
     {
         let line = match reason {
-            Reason::PlaceMissing { row, .. } => match self.row_lines.get(row) {
-                Some(line) => *line,
-                None => self.lines,
-            },
+            Reason::PlaceMissing { row, .. } => self
+                .rows
+                .get(row)
+                .map_or(self.lines, |row| row.line),
             _ => self.lines.max(1),
         };
         Mistake { line, reason }
@@ -89,17 +103,14 @@ impl Draft {
         ensures grows { Grows self.old self.new }
         ensures keeps { KeepsVariables self.old self.new }
         ensures variables { CountsVariables self.old self.new }
-        ensures refused { IfErr result (λ m. AddsNothing self.old self.new m.reason) }
+        ensures refused { OnErr result (AddsNothing self.old self.new) }
         ensures counted { self.new.lines ≡ min (self.old.lines + 1) (2 ^ 64 - 1) }
-        ensures numbered { IsNumbered self.old → IsNumbered self.new }
-        ensures named { IsNumbered self.old → IfErr result (λ m. IsLine self.new.lines m.line) }
+        ensures numbered { IsNumbered self.new }
+        ensures named { IfErr result (λ m. IsLine self.new.lines m.line) }
         ensures told { IfErr result (λ m. IsToldLine self.new m.reason m.line) }
     {
         self.lines = self.lines.saturating_add(1);
-        match self.take_in(text) {
-            Ok(()) => Ok(()),
-            Err(reason) => Err(self.mistake(reason)),
-        }
+        self.take_in(text).map_err(|reason| self.mistake(reason))
     }
 
     /// The sheet, when all lines are taken in: its parts are what the draft holds, and it is well-formed.
@@ -107,10 +118,14 @@ impl Draft {
         ensures value { IfOk result (λ v. v.items ≡ sheet_bytes (drafted self)) }
         ensures formed { IfOk result (λ v. IsSheet v.items) }
     {
-        match self.written() {
-            Ok(bytes) => Ok(bytes),
-            Err(reason) => Err(self.mistake(reason)),
-        }
+        self.written().map_err(|reason| self.mistake(reason))
+    }
+
+    // The rows without their lines.
+    fn rows_alone(&self) -> Result<Vec<Row>, AllocError>
+        ensures { IfOk result (λ v. v.items ≡ map (λ r. r.row) (vec_items self.now.rows)) }
+    {
+        self.rows.iter().map(|row| row.row).collect(self.heap)
     }
 
     // The sheet, which is read back to see that it is one.
@@ -124,17 +139,16 @@ impl Draft {
         if self.entries < self.rows.len() {
             return Err(Reason::EntryMissing { next: self.entries });
         }
+        let rows = self.rows_alone()?;
         let bytes = sheet_bytes(
             self.heap,
             self.variables,
             self.inputs.as_slice(),
-            self.rows.as_slice(),
+            rows.as_slice(),
             self.table.as_slice(),
         )?;
-        match Sheet::read(bytes.as_slice()) {
-            Ok(_) => Ok(bytes),
-            Err(refusal) => Err(Reason::Refused(refusal)),
-        }
+        Sheet::read(bytes.as_slice())?;
+        Ok(bytes)
     }
 
     fn take_in(&mut self, text: &str) -> Result<(), Reason>
@@ -142,30 +156,40 @@ impl Draft {
         ensures grows { Grows self.old self.new }
         ensures keeps { KeepsVariables self.old self.new }
         ensures variables { CountsVariables self.old self.new }
-        ensures refused { IfErr result (λ r. AddsNothing self.old self.new r) }
+        ensures refused { OnErr result (AddsNothing self.old self.new) }
         ensures lines { self.new.lines ≡ self.old.lines }
-        ensures numbered { IsNumbered self.old → IsNumbered self.new }
     {
         let words = words_of(self.heap, text)?;
-        let [first, rest @ ..] = words.as_slice() else {
-            return Ok(());
-        };
-        match *first {
-            "variables:" => self.variables_line(rest),
-            "input" => self.input_line(rest),
-            "table:" => self.table_line(rest),
-            "entry" => self.entry_line(rest),
-            place => self.row_line(place, rest),
+        match words.as_slice() {
+            [] => {}
+            ["variables:", count @ ..] => {
+                self.variables = self.variable_count(count)?;
+                self.stage = Stage::Inputs;
+            }
+            ["input", input @ ..] => {
+                let input = self.next_input(input)?;
+                self.inputs.push(input)?;
+            }
+            ["table:", cells @ ..] => self.stage = Stage::Table(self.table_cells(cells)?),
+            ["entry", entry @ ..] => {
+                let (cells, entry) = self.next_entry(entry)?;
+                push_entry(&mut self.table, cells, self.variables, entry)?;
+                self.entries += 1;
+            }
+            [place, row @ ..] => {
+                let row = self.next_row(place, row)?;
+                let line = self.lines;
+                self.rows.push(NumberedRow { row, line })?;
+                self.stage = Stage::Rows;
+            }
         }
+        Ok(())
     }
 
-    fn variables_line(&mut self, words: &[&str]) -> Result<(), Reason>
-        ensures inputs { SameInputs self.old self.new }
-        ensures rows { SameRows self.old self.new }
-        ensures keeps { KeepsVariables self.old self.new }
-        ensures variables { CountsVariables self.old self.new }
-        ensures entries { SameEntries self.old self.new }
-        ensures lines { SameLines self.old self.new }
+    // How many variables the words behind `variables:` count.
+    fn variable_count(&self, words: &[&str]) -> Result<usize, Reason>
+        ensures first { OnOk result (begun self.now.stage ≡ false) }
+        ensures count { IfOk result (λ n. (1 ≤ n) × (n ≤ 16)) }
     {
         let Stage::Start = self.stage else {
             return Err(Reason::VariablesTwice);
@@ -173,23 +197,16 @@ impl Draft {
         let [count] = words else {
             return Err(Reason::VariableCount);
         };
-        let count = number(count).ok_or(Reason::VariableCount)?;
-        if count < 1 || count > MAX_VARIABLES {
-            return Err(Reason::VariableCount);
+        match number(count) {
+            Some(count @ 1..=MAX_VARIABLES) => Ok(count),
+            _ => Err(Reason::VariableCount),
         }
-        self.variables = count;
-        self.stage = Stage::Inputs;
-        Ok(())
     }
 
-    fn input_line(&mut self, words: &[&str]) -> Result<(), Reason>
-        ensures taken { OnOk result ((begun self.old.stage ≡ true) × OneInput self.old self.new) }
-        ensures refused { OnErr result (SameInputs self.old self.new) }
-        ensures rows { SameRows self.old self.new }
-        ensures keeps { KeepsVariables self.old self.new }
-        ensures variables { CountsVariables self.old self.new }
-        ensures entries { SameEntries self.old self.new }
-        ensures lines { SameLines self.old self.new }
+    // The input that the words behind `input` say, if it is the next.
+    fn next_input(&self, words: &[&str]) -> Result<Input, Reason>
+        ensures begun { OnOk result (begun self.now.stage ≡ true) }
+        ensures set { IfOk result (λ i. i.lo ≤ℤ i.hi) }
     {
         match self.stage {
             Stage::Start => return Err(Reason::VariablesFirst),
@@ -206,27 +223,19 @@ impl Draft {
         if numbered(number).ok_or(Reason::InputForm)? != next {
             return Err(Reason::InputOrder { next });
         }
-        self.inputs.push(input_of(input)?)?;
-        Ok(())
+        input_of(input)
     }
 
-    fn row_line(&mut self, place: &str, words: &[&str]) -> Result<(), Reason>
-        requires { 1 ≤ self.old.lines }
-        ensures inputs { SameInputs self.old self.new }
-        ensures rows { SameRows self.old self.new
-            ⊎ ((begun self.old.stage ≡ true) × OneRow self.old self.new) }
-        ensures entries { SameEntries self.old self.new }
-        ensures refused { IfErr result (λ r. AddsNothing self.old self.new r) }
-        ensures lines { self.new.lines ≡ self.old.lines }
-        ensures numbered { IsNumbered self.old → IsNumbered self.new }
-        ensures keeps { KeepsVariables self.old self.new }
-        ensures variables { CountsVariables self.old self.new }
+    // The row that a line says, if it is the next.
+    fn next_row(&self, place: &str, words: &[&str]) -> Result<Row, Reason>
+        ensures begun { OnOk result (begun self.now.stage ≡ true) }
+        ensures known { IfOk result (Known self.now.variables (length (vec_items self.now.inputs))) }
     {
         let place = numbered(place).ok_or(Reason::UnknownLine)?;
         match self.stage {
             Stage::Start => return Err(Reason::VariablesFirst),
             Stage::Table(_) => return Err(Reason::RowsLate),
-            _ => self.stage = Stage::Rows,
+            _ => {}
         }
         let next = self.rows.len();
         if next >= MAX_PLACES {
@@ -239,49 +248,30 @@ impl Draft {
             variables: self.variables,
             inputs: self.inputs.len(),
         };
-        self.rows.push(row_of(counts, words)?)?;
-        self.row_lines.push(self.lines)?;
-        Ok(())
+        row_of(counts, words)
     }
 
-    fn table_line(&mut self, words: &[&str]) -> Result<(), Reason>
-        ensures inputs { SameInputs self.old self.new }
-        ensures rows { SameRows self.old self.new }
-        ensures keeps { KeepsVariables self.old self.new }
-        ensures variables { CountsVariables self.old self.new }
-        ensures entries { SameEntries self.old self.new }
-        ensures lines { SameLines self.old self.new }
+    // How the cells are written, by the words behind `table:`, if each place that a row goes to has a row.
+    fn table_cells(&self, words: &[&str]) -> Result<Cells, Reason>
+        ensures { OnOk result (begun self.now.stage ≡ true) }
     {
         match self.stage {
             Stage::Start => return Err(Reason::VariablesFirst),
             Stage::Inputs => return Err(Reason::TableEarly),
-            Stage::Rows => self.check_places()?,
+            Stage::Rows => {}
             Stage::Table(_) => return Err(Reason::TableTwice),
         }
-        self.stage = Stage::Table(cells_of(words)?);
-        Ok(())
-    }
-
-    // Each place that a row goes to has a row.
-    fn check_places(&self) -> Result<(), Reason> {
         let count = self.rows.len();
-        for (place, row) in self.rows.iter().enumerate() {
-            if !has_places(*row, count) {
-                return Err(Reason::PlaceMissing { row: place, count });
-            }
+        match self.rows.iter().position(|row| !has_places(row.row, count)) {
+            Some(row) => Err(Reason::PlaceMissing { row, count }),
+            None => cells_of(words),
         }
-        Ok(())
     }
 
-    fn entry_line(&mut self, words: &[&str]) -> Result<(), Reason>
-        ensures inputs { SameInputs self.old self.new }
-        ensures rows { SameRows self.old self.new }
-        ensures keeps { KeepsVariables self.old self.new }
-        ensures variables { CountsVariables self.old self.new }
-        ensures taken { OnOk result
-            ((begun self.old.stage ≡ true) × (self.new.entries ≡ self.old.entries + 1)) }
-        ensures refused { OnErr result (SameEntries self.old self.new) }
-        ensures lines { SameLines self.old self.new }
+    // How the cells are written, and the words of the entry behind its number, if it is the next.
+    fn next_entry<'a>(&self, words: &'a [&'a str]) -> Result<(Cells, &'a [&'a str]), Reason>
+        ensures begun { OnOk result (begun self.now.stage ≡ true) }
+        ensures room { OnOk result (self.now.entries < length (vec_items self.now.rows)) }
     {
         let Stage::Table(cells) = self.stage else {
             return Err(Reason::EntriesEarly);
@@ -298,8 +288,6 @@ impl Draft {
         if place != next {
             return Err(Reason::EntryOrder { next });
         }
-        push_entry(&mut self.table, cells, self.variables, entry)?;
-        self.entries = next + 1;
-        Ok(())
+        Ok((cells, entry))
     }
 }

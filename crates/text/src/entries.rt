@@ -1,7 +1,7 @@
 // The table as text: how its cells are written, and its entries.
 use lines::Reason;
 use notation::{Cells, DomainName, number};
-use std::alloc::AllocError;
+use std::iter::repeat_n;
 
 /// How the cells are written, by the words behind `table:`.
 pub(crate) fn cells_of(words: &[&str]) -> Result<Cells, Reason> {
@@ -14,17 +14,16 @@ pub(crate) fn cells_of(words: &[&str]) -> Result<Cells, Reason> {
             Ok(Cells::Values(name))
         }
         [width, "bytes", "a", "cell"] => {
-            let width = number(width).ok_or(Reason::CellWidth)?;
-            if width < 1 || width > 64 {
-                return Err(Reason::CellWidth);
+            match number(width) {
+                Some(width @ 1..=64) => Ok(Cells::Bytes(width)),
+                _ => Err(Reason::CellWidth),
             }
-            Ok(Cells::Bytes(width))
         }
         _ => Err(Reason::TableForm),
     }
 }
 
-/// Adds the entry that the words are: `absent`, or a cell for each variable, before which a flag other than 1 stands.
+/// Adds the entry that the words are: `absent`, which is the flag 0 and zero bytes, or a cell for each variable, before which a flag other than 1 stands.
 pub(crate) fn push_entry(
     out: &mut Vec<u8>,
     cells: Cells,
@@ -33,12 +32,15 @@ pub(crate) fn push_entry(
 ) -> Result<(), Reason> {
     match words {
         ["absent"] => {
-            push_absent(out, cells.width(), variables)?;
+            out.push(0)?;
+            for _ in 0..variables {
+                out.extend(repeat_n(0, cells.width()))?;
+            }
             Ok(())
         }
         ["flag", flag, words @ ..] => {
             let flag = number(flag).ok_or(Reason::EntryFlag)?;
-            out.push(u8::try_from(flag).ok().ok_or(Reason::EntryFlag)?)?;
+            out.push(u8::try_from(flag).map_err(|_| Reason::EntryFlag)?)?;
             push_cells(out, cells, variables, words)
         }
         _ => {
@@ -46,17 +48,6 @@ pub(crate) fn push_entry(
             push_cells(out, cells, variables, words)
         }
     }
-}
-
-// The flag 0 and as many zero bytes as the cells have.
-fn push_absent(out: &mut Vec<u8>, width: usize, variables: usize) -> Result<(), AllocError> {
-    out.push(0)?;
-    for _ in 0..variables {
-        for _ in 0..width {
-            out.push(0)?;
-        }
-    }
-    Ok(())
 }
 
 fn push_cells(
