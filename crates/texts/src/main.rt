@@ -14,33 +14,22 @@ const FEW: usize = 96;
 fn main(rt: HostRuntime) -> anyhow::Result<()> {
     let heap = rt.alloc();
     let mut draft = Draft::new(heap);
-    let mut mistake = None;
+    let mut taken = Ok(());
     for line in rt.lines(heap) {
         let line = line?;
         match line.as_str().strip_prefix("===") {
             Some(name) => {
-                answer(&rt, name.trim(), ended(draft, mistake))?;
+                answer(&rt, name.trim(), taken.and_then(|()| draft.finish()))?;
                 draft = Draft::new(heap);
-                mistake = None;
+                taken = Ok(());
             }
-            None => {
-                if mistake.is_none() {
-                    mistake = draft.line(line.as_str()).err();
-                }
-            }
+            None => taken = taken.and_then(|()| draft.line(line.as_str())),
         }
     }
     Ok(())
 }
 
-// The sheet, or the first mistake.
-fn ended(draft: Draft, mistake: Option<Mistake>) -> Result<Vec<u8>, Mistake> {
-    match mistake {
-        Some(mistake) => Err(mistake),
-        None => draft.finish(),
-    }
-}
-
+// Prints the sheet, or the first mistake.
 fn answer(rt: &HostRuntime, name: &str, res: Result<Vec<u8>, Mistake>) -> anyhow::Result<()> {
     match res {
         Ok(sheet) => {
