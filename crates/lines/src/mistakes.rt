@@ -95,9 +95,7 @@ impl From<Refusal> for Reason {
 
 impl fmt::Display for Mistake {
     fn fmt<W: fmt::Write>(&self, f: &mut fmt::Formatter<W>) -> fmt::Result {
-        let line = self.line;
-        let reason = self.reason;
-        write!(f, "line {line}: {reason}")
+        write!(f, "line {}: {}", self.line, self.reason)
     }
 }
 

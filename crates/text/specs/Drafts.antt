@@ -62,9 +62,9 @@ pub data Grows (old new : Draft) : Type 0 where
   row_more : begun old.stage ≡ true → SameInputs old new → OneRow old new → SameEntries old new → Grows old new
   entry_more : begun old.stage ≡ true → SameInputs old new → SameRows old new → new.entries ≡ old.entries + 1 → Grows old new
 
--- the same inputs, the same rows and as many entries
+-- as many variables, the same inputs, the same rows and as many entries
 abbrev pub AddsNothing : Draft → Draft → Type 0
-AddsNothing old new = SameInputs old new × SameRows old new × SameEntries old new
+AddsNothing old new = (new.variables ≡ old.variables) × SameInputs old new × SameRows old new × SameEntries old new
 
 -- each row is from a line that is counted
 abbrev pub IsNumbered : Draft → Type 0

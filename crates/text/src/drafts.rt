@@ -109,7 +109,6 @@ impl Draft {
         ensures named { IfErr result (λ m. IsLine self.new.lines m.line) }
         ensures told { IfErr result (λ m. IsToldLine self.new m.reason m.line) }
     {
-        self.lines = self.lines.saturating_add(1);
         self.take_in(text).map_err(|reason| self.mistake(reason))
     }
 
@@ -151,14 +150,15 @@ impl Draft {
         Ok(bytes)
     }
 
+    // Counts the line, and takes in what its words say. What is refused adds nothing.
     fn take_in(&mut self, text: &str) -> Result<(), Reason>
-        requires { 1 ≤ self.old.lines }
         ensures grows { Grows self.old self.new }
         ensures keeps { KeepsVariables self.old self.new }
         ensures variables { CountsVariables self.old self.new }
         ensures refused { OnErr result (AddsNothing self.old self.new) }
-        ensures lines { self.new.lines ≡ self.old.lines }
+        ensures counted { self.new.lines ≡ min (self.old.lines + 1) (2 ^ 64 - 1) }
     {
+        self.lines = self.lines.saturating_add(1);
         let words = words_of(self.heap, text)?;
         match words.as_slice() {
             [] => {}
@@ -178,8 +178,10 @@ impl Draft {
             }
             [place, row @ ..] => {
                 let row = self.next_row(place, row)?;
-                let line = self.lines;
-                self.rows.push(NumberedRow { row, line })?;
+                self.rows.push(NumberedRow {
+                    row,
+                    line: self.lines,
+                })?;
                 self.stage = Stage::Rows;
             }
         }

@@ -23,7 +23,8 @@ pub(crate) fn cells_of(words: &[&str]) -> Result<Cells, Reason> {
     }
 }
 
-/// Adds the entry that the words are: `absent`, which is the flag 0 and zero bytes, or a cell for each variable, before which a flag other than 1 stands.
+/// Adds the entry that the words are: `absent`, which is the flag 0 and zero bytes, or a cell for each variable,
+/// before which a flag other than 1 stands.
 pub(crate) fn push_entry(
     out: &mut Vec<u8>,
     cells: Cells,
