@@ -5,11 +5,11 @@
 ghost use Rattle.std.specs.Prelude.{◌≡◌, ◌+◌, ◌*◌, ◌<◌, slice_index};
 ghost use Rattle.inspect.specs.Flags.{flag_of};
 ghost use Rattle.scan.specs.Scan.{chunk};
-ghost use Rattle.sheet.specs.Sheets.{Fits, Width};
+ghost use Rattle.sheet.specs.Sheets.{Width};
 ghost use Rattle.sheet.specs.Views.{seen};
 
 use scan::piece;
-use sheet::{Part, Refusal, Sheet};
+use sheet::{Part, Sheet};
 use std::io;
 use std::io::Read;
 
@@ -26,17 +26,11 @@ fn main(rt: HostRuntime) -> io::Result<()> {
             print_rows(&rt, &sheet)?;
             print_table(&rt, &sheet)
         }
-        Err(refusal) => print_refusal(&rt, refusal),
+        Err(refusal) => {
+            println!(rt; "refused {}", refusal.report())?;
+            println!(rt; "{refusal}")
+        }
     }
-}
-
-fn print_refusal(rt: &HostRuntime, refusal: Refusal) -> io::Result<()> {
-    let report = refusal.report();
-    println!(rt;
-        "refused {} {} {} {}",
-        report.number, report.place, report.way, report.variable
-    )?;
-    println!(rt; "{refusal}")
 }
 
 fn print_head(rt: &HostRuntime, sheet: &Sheet<'_>, size: usize) -> io::Result<()> {
@@ -53,33 +47,24 @@ fn print_part(rt: &HostRuntime, name: &str, count: usize, part: &Part<'_>) -> io
 }
 
 fn print_inputs(rt: &HostRuntime, sheet: &Sheet<'_>) -> io::Result<()>
-    requires { Fits (seen sheet.now) }
 {
     print_part(rt, "inputs", sheet.input_count, &sheet.inputs)?;
     for number in 0..sheet.input_count {
-        match sheet.input(number) {
-            Ok(input) => println!(rt; "input {number}: {input}")?,
-            Err(refusal) => print_refusal(rt, refusal)?,
-        }
+        println!(rt; "input {number}: {}", sheet.input(number))?;
     }
     Ok(())
 }
 
 fn print_rows(rt: &HostRuntime, sheet: &Sheet<'_>) -> io::Result<()>
-    requires { Fits (seen sheet.now) }
 {
     print_part(rt, "rows", sheet.places, &sheet.rows)?;
     for place in 0..sheet.places {
-        match sheet.row(place) {
-            Ok(row) => println!(rt; "{place}: {row}")?,
-            Err(refusal) => print_refusal(rt, refusal)?,
-        }
+        println!(rt; "{place}: {}", sheet.row(place))?;
     }
     Ok(())
 }
 
 fn print_table(rt: &HostRuntime, sheet: &Sheet<'_>) -> io::Result<()>
-    requires { Fits (seen sheet.now) }
 {
     print_part(rt, "table entries", sheet.places, &sheet.table)?;
     match sheet.cell_width() {
@@ -109,7 +94,6 @@ enum Flag {
 
 // The first byte of the entry at `place`, where cells have `width` bytes.
 fn entry_flag(sheet: &Sheet<'_>, width: usize, place: usize) -> Flag
-    requires fits { Fits (seen sheet.now) }
     requires wide { Width (seen sheet.now) width }
     requires within { place < sheet.now.places }
     ensures { result ≡ flag_of (slice_index (chunk (1 + sheet.now.variables * width) place sheet.now.table.bytes.now) 0) }
@@ -135,21 +119,17 @@ fn print_entries(
     flag: Flag,
     name: &str,
 ) -> io::Result<()>
-    requires fits { Fits (seen sheet.now) }
-    requires wide { Width (seen sheet.now) width }
+    requires { Width (seen sheet.now) width }
 {
-    let mut some = false;
-    for place in 0..sheet.places {
-        if entry_flag(sheet, width, place) == flag {
-            if !some {
-                print!(rt; "{name}:")?;
-            }
-            some = true;
-            print!(rt; " {place}")?;
-        }
+    let mut places = (0..sheet.places)
+        .filter(|place| entry_flag(sheet, width, *place) == flag)
+        .peekable();
+    if places.peek().is_none() {
+        return Ok(());
     }
-    if some {
-        println!(rt)?;
+    print!(rt; "{name}:")?;
+    for place in places {
+        print!(rt; " {place}")?;
     }
-    Ok(())
+    println!(rt)
 }
