@@ -1,5 +1,5 @@
 -- A sheet that can be widened: its length, what is answered, and what is written. Assumes nothing.
-use Rattle.std.proofs.Common.{◌≡◌, ℕ, ◌+◌, ◌*◌, ◌<◌, ◌≤◌, not, eqb, List, ◌++◌, length, drop, Ok, Err, sym, refl, ap, ◌∙◌, subst, arith}
+use Rattle.std.proofs.Common.{◌≡◌, ℕ, ◌+◌, ◌*◌, ◌<◌, ◌≤◌, not, eqb, List, ◌++◌, length, Ok, Err, sym, refl, ap, ◌∙◌, subst, arith}
 use Rattle.std.proofs.lemmas.Bool.{eqb-true, le-leb, lt-leb, cond-true, cond-false}
 use Rattle.scan.specs.Scan.{unless}
 use Rattle.scan.proofs.Scans.{stage, held, ok_same}
@@ -9,11 +9,11 @@ use Rattle.sheet.specs.declared.refusals.Refusal.TheVariants.{NoWidth, TableSize
 use Rattle.domain.specs.Model.{Ops}
 use Rattle.rules.specs.Tables.{table_of}
 use Rattle.widening.specs.Widened.{head_bytes, sheet_bytes, widened_table, widened_parts, widened_in, widened}
-use Rattle.widening.specs.Writes.{put, head_with, table_with, sheet_with}
+use Rattle.widening.specs.Writes.{head_with, table_with, sheet_with}
 use Rattle.widening.specs.Answers.{table_sized, widths_right, fitting, sized, widen_answer}
 use Rattle.widening.specs.declared.WidenError.TheVariants.{Short}
 use Rattle.widening.proofs.Moved.{whole}
-use Rattle.widening.proofs.Puts.{put_front, table-with-sized}
+use Rattle.widening.proofs.Sizes.{table-with-sized}
 
 module _ {A B : Type 0} (p : Ops A) (q : Ops B) where
   widths-whole : (s : Parts) → widths_right p q s ≡ Ok tt → length s.table.bytes ≡ s.places * (1 + s.variables * p.width)
@@ -39,7 +39,7 @@ module _ {A B : Type 0} (p : Ops A) (q : Ops B) where
         ∙ ap (λ n. 28 + length s.inputs.bytes + length s.rows.bytes + n) (table-with-sized q p.width s.variables s.places s.table.bytes fitting-whole)
 
     -- what is written is the widened sheet
-    bytes-are : sheet_with q p.width s ≡ widened p q bs
+    pub bytes-are : sheet_with q p.width s ≡ widened p q bs
     bytes-are =
         ap (λ n. head_with s.variables s.input_count (length s.inputs.bytes) (length s.rows.bytes) n
         ++ (s.inputs.bytes ++ (s.rows.bytes ++ table_with q p.width s.variables s.table.bytes s.places)))
@@ -56,8 +56,3 @@ module _ {A B : Type 0} (p : Ops A) (q : Ops B) where
       room-enough h =
           ap Ok (size ∙ sym size_is)
           ∙ sym (ap (sized p q room) e ∙ cond-true _ _ _ (le-leb _ room (omega (arith, size_is))))
-
-      pub written_is : (out after : List ℕ) → after ≡ put out 0 (sheet_with q p.width s) → after ≡ widened p q bs ++ drop n out
-      written_is out after f =
-          f ∙ ap (put out 0) bytes-are ∙ put_front out (widened p q bs)
-          ∙ ap (λ m. widened p q bs ++ drop m out) (ap (λ r. length (widened_in p q r)) fitting-read ∙ size_is ∙ sym size)

@@ -4,5 +4,6 @@ pub mod Lifts
 pub mod Entries
 pub mod Paired
 pub mod Stays
-pub mod Puts
+pub mod Chunked
+pub mod Sizes
 pub mod Fitting

@@ -1,14 +1,10 @@
--- What is written into a buffer, piece by piece. Assumes nothing.
-use Rattle.std.specs.Prelude.{ℕ, ◌+◌, ◌*◌, List, [], ◌∷◌, ◌++◌, length, take, drop, slice_index}
+-- What is written, piece by piece. Assumes nothing.
+use Rattle.std.specs.Prelude.{ℕ, ◌+◌, ◌*◌, List, [], ◌∷◌, ◌++◌, length, drop, slice_index}
 use Rattle.scan.specs.Scan.{chunk}
 use Rattle.sheet.specs.Parts.{Parts}
 use Rattle.domain.specs.Model.{Ops}
 use Rattle.domain.specs.Laws.{blanks}
 use Rattle.widening.specs.Widened.{pieces, word_bytes}
-
--- a buffer with some bytes written over its own from a place on
-abbrev pub put : List ℕ → ℕ → List ℕ → List ℕ
-put out at bytes = take at out ++ (bytes ++ drop (at + length bytes) out)
 
 -- cells of a width, each with the blank cell of a second domain after it
 abbrev pub cells_with : {B : Type 0} → Ops B → ℕ → List ℕ → ℕ → List ℕ

@@ -4,16 +4,20 @@
 ghost use Rattle.std.specs.Prelude.{◌≡◌, length};
 ghost use Rattle.layers.specs.Piles.{Pile, dom_of};
 ghost use Rattle.widening.specs.Answers.{widen_answer, afterwards};
+ghost use Rattle.widening.specs.declared.WidenError.TheVariants.{Refused};
 ghost use Rattle.widening.specs.Pairing.{Pairing, PairingOf, StaysBytes};
 ghost use Rattle.widening.specs.Widened.{widened};
 
-use crate::sheets::{fitting_parts, put_sheet, widened_len};
+use crate::grids::Grid;
 use domain::Domain;
 use layers::pile::Domains;
 use sheet::Refusal;
 
-mod sheets;
+mod grids;
+mod heads;
 mod writes;
+
+pub use heads::Head;
 
 /// Why a sheet was not widened.
 #[derive(Clone, Copy)]
@@ -24,21 +28,27 @@ pub enum WidenError {
     Short(usize),
 }
 
+impl From<Refusal> for WidenError {
+    ghost from_gives = { λ refusal e. e ≡ Refused refusal };
+
+    fn from(refusal: Refusal) -> WidenError {
+        WidenError::Refused(refusal)
+    }
+}
+
 /// Writes the sheet `bytes` of the domain `A`, widened to the pair of `A` and `B`, to the front of `out`,
 /// and answers how many bytes it wrote. What is refused leaves `out` as it was.
 pub fn widen<A: Domain, B: Domain>(bytes: &[u8], out: &mut [u8]) -> Result<usize, WidenError>
     ensures answer { result ≡ widen_answer A.Domain.ops B.Domain.ops bytes.now (length out.old) }
     ensures written { out.new ≡ afterwards result (widened A.Domain.ops B.Domain.ops bytes.now) out.old }
 {
-    let sheet = match fitting_parts::<A, B>(bytes) {
-        Ok(sheet) => sheet,
-        Err(refusal) => return Err(WidenError::Refused(refusal)),
-    };
-    let size = widened_len::<B>(&sheet, A::width());
+    let grid = Grid::read::<A, B>(bytes)?;
+    let size = grid.widened_len::<B>();
     if out.len() < size {
         return Err(WidenError::Short(size));
     }
-    put_sheet::<B>(out, &sheet, A::width());
+    let (front, _) = out.split_at_mut(size);
+    grid.fill::<B>(front);
     Ok(size)
 }
 
