@@ -8,10 +8,6 @@ use Rattle.writing.specs.Laid.{joined, All}
 pub pushed : {E : Type 0} (old new more : List ℕ) (r : Result (Unit {0}) E) (u : Unit {0}) → new ≡ cond (is_ok r) (old ++ more) old → r ≡ Ok u → new ≡ old ++ more
 pushed old new more r u e w = e ∙ ap (λ x. cond (is_ok x) (old ++ more) old) w
 
--- three parts, added one after another
-pub behind : (h a b c v₁ v₂ v₃ : List ℕ) → v₁ ≡ h ++ a → v₂ ≡ v₁ ++ b → v₃ ≡ v₂ ++ c → v₃ ≡ h ++ (a ++ (b ++ c))
-behind h a b c v₁ v₂ v₃ e f g = g ∙ ap (λ v. v ++ c) (f ∙ ap (λ v. v ++ b) e) ∙ append_assoc (h ++ a) b c ∙ append_assoc h a (b ++ c)
-
 module _ {A : Type 0} (bytes : A → List ℕ) where
   pub joined-append : (xs ys : List A) → joined bytes (xs ++ ys) ≡ joined bytes xs ++ joined bytes ys
   joined-append [] ys = refl

@@ -1,5 +1,5 @@
 -- The sheet of a sound routine is well-formed, and is read as its parts. Assumes nothing.
-use Rattle.std.proofs.Common.{◌≡◌, ℕ, ◌+◌, ◌*◌, ◌≤◌, List, ◌++◌, length, Ok, refl, ap, ◌∙◌, ap₂, arith}
+use Rattle.std.proofs.Common.{◌≡◌, ℕ, ◌+◌, ◌*◌, ◌≤◌, List, length, Ok, refl, arith}
 use Rattle.machine.specs.declared.Input.{Input}
 use Rattle.machine.specs.declared.Row.{Row}
 use Rattle.machine.specs.declared.Row.TheVariants.{End, Put, Take, Work, Fork}
@@ -7,10 +7,9 @@ use Rattle.sheet.specs.Format.{row_bytes, input_bytes, Names, Proper, WellFormed
 use Rattle.sheet.specs.Sheets.{sheet_of}
 use Rattle.sheet.proofs.Accepted.{accepted}
 use Rattle.widening.specs.Widened.{head_bytes, sheet_bytes}
-use Rattle.widening.specs.Writes.{head_with}
 use Rattle.widening.proofs.Moved.{digits, whole, first-held, second-held, third-held}
 use Rattle.writing.specs.Laid.{joined, laid_out, Sound}
-use Rattle.writing.proofs.Joined.{behind, joined_length, found}
+use Rattle.writing.proofs.Joined.{joined_length, found}
 
 pub row-length : (r : Row) → length (row_bytes r) ≡ 12
 row-length End = refl
@@ -70,9 +69,3 @@ module _ (v : ℕ) (is : List Input) (rs : List Row) (table : List ℕ) (s : Sou
 
   pub laid-read : sheet_of (sheet_bytes (laid_out v is rs table)) ≡ Ok (laid_out v is rs table)
   laid-read = accepted _ _ laid-formed
-
--- a head and the three parts, added one after another, are the sheet
-pub written : (v : ℕ) (is : List Input) (rs : List Row) (table ip rp h v₁ v₂ v₃ : List ℕ) (a b : ℕ) → ip ≡ joined input_bytes is → rp ≡ joined row_bytes rs → a ≡ length ip → b ≡ length rp → h ≡ head_with v (length is) a b (length table) → v₁ ≡ h ++ ip → v₂ ≡ v₁ ++ rp → v₃ ≡ v₂ ++ table → v₃ ≡ sheet_bytes (laid_out v is rs table)
-written v is rs table ip rp h v₁ v₂ v₃ a b i r la lb head e₁ e₂ e₃ =
-    behind h ip rp table v₁ v₂ v₃ e₁ e₂ e₃
-    ∙ ap₂ ◌++◌ (head ∙ ap₂ (λ x y. head_with v (length is) x y (length table)) (la ∙ ap length i) (lb ∙ ap length r)) (ap₂ (λ x y. x ++ (y ++ table)) i r)
