@@ -30,7 +30,7 @@ use Rattle.sheet.specs.declared.refusals.Refusal.TheVariants.{SheetSize, HeadByt
 use Rattle.sheet.proofs.Formed.{formed-of}
 
 -- a number below 2^32 is made up of its four digits in base 256
-digits : (n : ℕ) → n < 4294967296 → little (n % 256) (n / 256 % 256) (n / 65536 % 256) (n / 16777216 % 256) ≡ n
+pub digits : (n : ℕ) → n < 4294967296 → little (n % 256) (n / 256 % 256) (n / 65536 % 256) (n / 16777216 % 256) ≡ n
 digits n h =
     let q₂ : n / 65536 ≡ n / 256 / 256 = sym (div-div-eq-div-mul n 256 256) in
     let q₃ : n / 16777216 ≡ n / 256 / 256 / 256 = sym (div-div-eq-div-mul (n / 256) 256 256 ∙ div-div-eq-div-mul n 256 65536) in

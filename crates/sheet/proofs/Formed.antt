@@ -20,7 +20,7 @@ chunk-length size count i xs e h =
     simp (length-take, length-drop) (omega arith)
 
 -- what a part holds are bytes of the sheet
-held_bytes : (bs : List ℕ) (p : Region) → AllBytes bs → Held bs p → AllBytes p.bytes
+pub held_bytes : (bs : List ℕ) (p : Region) → AllBytes bs → Held bs p → AllBytes p.bytes
 held_bytes bs p bytes h = subst AllBytes (sym h) (bytes_take (length p.bytes) (drop p.at bs) (bytes_drop p.at bs bytes))
 
 -- whatever passed was found

@@ -1,18 +1,10 @@
 -- A sheet whose parts are moved up is well-formed where it was before. Assumes nothing.
-use Rattle.std.proofs.Common.{◌≡◌, ℕ, ◌+◌, ◌*◌, ◌/◌, ◌%◌, ◌<◌, ◌≤◌, List, ◌++◌, length, take, drop, sym, refl, ap, ◌∙◌, mul-le-mul, arith, length-append}
-use native.Mathlib.Nat.{div-div-eq-div-mul}
+use Rattle.std.proofs.Common.{◌≡◌, ℕ, ◌+◌, ◌*◌, ◌≤◌, List, ◌++◌, length, take, drop, sym, refl, ap, ◌∙◌, mul-le-mul, arith, length-append}
 use Rattle.std.proofs.lemmas.List.{take_at, take_all, drop_at, drop-drop}
-use Rattle.sheet.specs.Bytes.{little}
 use Rattle.sheet.specs.Format.{WellFormed}
 use Rattle.sheet.specs.Parts.{Parts}
+use Rattle.sheet.proofs.Accepted.{digits}
 use Rattle.widening.specs.Widened.{head_bytes, sheet_bytes, moved_up}
-
--- a number below 2^32 is made up of its four digits in base 256
-pub digits : (n : ℕ) → n < 4294967296 → little (n % 256) (n / 256 % 256) (n / 65536 % 256) (n / 16777216 % 256) ≡ n
-digits n h =
-    let q₂ : n / 65536 ≡ n / 256 / 256 = sym (div-div-eq-div-mul n 256 256) in
-    let q₃ : n / 16777216 ≡ n / 256 / 256 / 256 = sym (div-div-eq-div-mul (n / 256) 256 256 ∙ div-div-eq-div-mul n 256 65536) in
-    rw (q₂, q₃) (omega arith)
 
 -- at most 256 entries of a flag and 16 cells, each of at most 64 bytes of either domain
 pub small-table : (places variables width : ℕ) → places ≤ 256 → variables ≤ 16 → width ≤ 128 → places * (1 + variables * width) ≤ 1000000

@@ -1,15 +1,15 @@
 -- A widened sheet is made of bytes. Assumes that the blank bytes of the second domain are bytes.
-use Rattle.std.proofs.Common.{◌≡◌, ℕ, zero, suc, ◌/◌, ◌%◌, ◌<◌, ◌≤◌, List, [], ◌∷◌, ◌++◌, length, drop, Ok, Err, Result, sym, refl, subst, ⊎_elim, arith}
+use Rattle.std.proofs.Common.{◌≡◌, ℕ, zero, suc, ◌/◌, ◌%◌, ◌<◌, ◌≤◌, List, [], ◌∷◌, ◌++◌, length, drop, Ok, Err, Result, refl, ⊎_elim, arith}
 use Rattle.std.proofs.lemmas.List.FromFn.{length-map-range_with_len, get_or-map-range_with_len}
 use Rattle.std.proofs.lemmas.List.{get_or_past}
 use Rattle.std.proofs.lemmas.Bool.{cases_lt}
 use Rattle.sheet.specs.Bytes.{AllBytes}
-use Rattle.sheet.specs.Format.{WellFormed, Held}
+use Rattle.sheet.specs.Format.{WellFormed}
 use Rattle.sheet.specs.Parts.{Region, Parts}
 use Rattle.sheet.specs.Sheets.{sheet_of}
 use Rattle.sheet.specs.declared.refusals.Refusal.{Refusal}
-use Rattle.sheet.proofs.Formed.{formed-of}
-use Rattle.sheet.proofs.Spelled.{bytes-chunk, bytes_take, bytes_drop}
+use Rattle.sheet.proofs.Formed.{held_bytes, formed-of}
+use Rattle.sheet.proofs.Spelled.{bytes-chunk, bytes_drop}
 use Rattle.domain.specs.Model.{Ops}
 use Rattle.domain.specs.Laws.{Reading, blanks}
 use Rattle.rules.specs.Tables.{entry_size, entry_at, flag_at, cell_at, table_of}
@@ -44,9 +44,6 @@ blanks-bytes q l i = ⊎_elim
     (λ (h : i < q.width). rw (get_or-map-range_with_len q.blank 0 q.width i i 0 h (omega arith)) (l.blank_byte i))
     (λ (h : q.width ≤ i). rw (get_or_past (blanks q) i 0 (omega (arith, length-map-range_with_len q.blank 0 q.width))) (omega arith))
     (cases_lt i q.width)
-
-held_bytes : (bs : List ℕ) (r : Region) → AllBytes bs → Held bs r → AllBytes r.bytes
-held_bytes bs r bytes h = subst AllBytes (sym h) (bytes_take (length r.bytes) (drop r.at bs) (bytes_drop r.at bs bytes))
 
 module _ {A B : Type 0} (p : Ops A) (q : Ops B) (l : Reading q) where
   entry-bytes : (s : Parts) → AllBytes s.table.bytes → (place : ℕ) → AllBytes (widened_entry q (table_of p s) place)

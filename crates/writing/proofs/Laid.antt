@@ -5,9 +5,9 @@ use Rattle.machine.specs.declared.Row.{Row}
 use Rattle.machine.specs.declared.Row.TheVariants.{End, Put, Take, Work, Fork}
 use Rattle.sheet.specs.Format.{row_bytes, input_bytes, Names, Proper, WellFormed}
 use Rattle.sheet.specs.Sheets.{sheet_of}
-use Rattle.sheet.proofs.Accepted.{accepted}
+use Rattle.sheet.proofs.Accepted.{digits, accepted}
 use Rattle.widening.specs.Widened.{head_bytes, sheet_bytes}
-use Rattle.widening.proofs.Moved.{digits, whole, first-held, second-held, third-held}
+use Rattle.widening.proofs.Moved.{whole, first-held, second-held, third-held}
 use Rattle.writing.specs.Laid.{joined, laid_out, Sound}
 use Rattle.writing.proofs.Joined.{joined_length, found}
 
