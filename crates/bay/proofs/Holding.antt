@@ -1,44 +1,40 @@
--- The front of an array, as the list that it holds. Assumes nothing.
-use Rattle.std.proofs.Common.{◌≡◌, ℕ, zero, suc, ◌+◌, ◌<◌, ◌≤◌, List, [], ◌∷◌, ◌++◌, length, get_or, take, set, Some, None, sym, refl, ap, ◌∙◌, le_of_suc-le-suc, not-suc-le-zero, arith, length-take}
-use Rattle.std.proofs.lemmas.List.{get_or-take, get_or_past, set_past, take_more_set}
-use Rattle.number.specs.Codes.{nth}
+-- What the model says of held inputs, in terms of the table's own items. Assumes nothing.
+use Rattle.std.proofs.Common.{◌≡◌, ℕ, zero, suc, List, [], ◌∷◌, get_or, map, set, ℤ, pos, Some, Option, sym, refl, ap, ◌∙◌}
+use Rattle.std.proofs.lemmas.List.{map-set}
+use Rattle.std.proofs.lemmas.Option.{none-some}
+use Rattle.std.specs.List.{slice_get}
+use Rattle.machine.specs.declared.Input.{Input}
+use Rattle.bay.specs.Model.{from_input}
+use Rattle.bay.specs.declared.inputs.HeldInput.{HeldInput}
+use Rattle.bay.proofs.Rules.{some_same}
 
-module _ {A : Type 0} where
-  pub front_at : (xs : List A) (n i : ℕ) (d : A) → i < n → get_or xs i d ≡ get_or (take n xs) i d
-  front_at xs n i d h = sym (get_or-take n xs i d h)
+abbrev inputs_of : List HeldInput → List Input
+inputs_of hs = map (λ h. h.input) hs
 
-  pub front-past : (xs : List A) (n i : ℕ) (d : A) → n ≤ i → d ≡ get_or (take n xs) i d
-  front-past xs n i d h = sym (get_or_past (take n xs) i d (simp length-take (omega arith)))
+abbrev settings_of : List HeldInput → List ℤ
+settings_of hs = map (λ h. h.setting) hs
 
-  nth_in : (xs : List A) (i : ℕ) (d : A) → i < length xs → nth xs i ≡ Some (get_or xs i d)
-  nth_in [] i d h = absurd (not-suc-le-zero h)
-  nth_in (x ∷ xs) zero d h = refl
-  nth_in (x ∷ xs) (suc i) d h = nth_in xs i d (le_of_suc-le-suc h)
+-- the input with a number that is held
+pub input-held : (hs : List HeldInput) (k : ℕ) (h : HeldInput) → Some h ≡ slice_get hs k → slice_get (inputs_of hs) k ≡ Some h.input
+input-held [] k h e = absurd (none-some h (sym e))
+input-held (x ∷ hs) zero h e = ap (λ (y : HeldInput). Some y.input) (some_same (sym e))
+input-held (x ∷ hs) (suc k) h e = input-held hs k h e
 
-  nth-out : (xs : List A) (i : ℕ) → length xs ≤ i → nth xs i ≡ None
-  nth-out [] i h = refl
-  nth-out (x ∷ xs) zero h = absurd (not-suc-le-zero h)
-  nth-out (x ∷ xs) (suc i) h = nth-out xs i (le_of_suc-le-suc h)
+-- what is taken of it
+pub takes-held : (hs : List HeldInput) (k : ℕ) (h : HeldInput) (z : ℤ) → Some h ≡ slice_get hs k
+    → from_input (slice_get (inputs_of hs) k) (get_or (settings_of hs) k (pos 0)) z ≡ from_input (Some h.input) h.setting z
+takes-held [] k h z e = absurd (none-some h (sym e))
+takes-held (x ∷ hs) zero h z e = ap (λ (y : HeldInput). from_input (Some y.input) y.setting z) (some_same (sym e))
+takes-held (x ∷ hs) (suc k) h z e = takes-held hs k h z e
 
-  pub front-nth : (xs : List A) (n i : ℕ) (d : A) → i < n → n ≤ length xs → Some (get_or xs i d) ≡ nth (take n xs) i
-  front-nth xs n i d h k =
-      ap Some (front_at xs n i d h) ∙ sym (nth_in (take n xs) i d (simp length-take (omega arith)))
+-- its setting changed
+inputs-set : (hs : List HeldInput) (k : ℕ) (h : HeldInput) (z : ℤ) → Some h ≡ slice_get hs k
+    → inputs_of (set hs k (record { input = h.input; setting = z })) ≡ inputs_of hs
+inputs-set [] k h z e = refl
+inputs-set (x ∷ hs) zero h z e = ap (λ (y : HeldInput). y.input ∷ inputs_of hs) (sym (some_same (sym e)))
+inputs-set (x ∷ hs) (suc k) h z e = ap (λ (is : List Input). x.input ∷ is) (inputs-set hs k h z e)
 
-  pub front-none : (xs : List A) (n i : ℕ) → n ≤ i → None ≡ nth (take n xs) i
-  front-none xs n i h = sym (nth-out (take n xs) i (simp length-take (omega arith)))
-
-  pub front-push : (xs : List A) (n : ℕ) (x : A) → n < length xs → take (n + 1) (set xs n x) ≡ take n xs ++ x ∷ []
-  front-push xs n x h = take_more_set xs n x h
-
-  -- a change within the front, and one that is not
-  pub front-set : (xs : List A) (n i : ℕ) (x : A) → take n (set xs i x) ≡ set (take n xs) i x
-  front-set [] zero i x = refl
-  front-set [] (suc n) i x = refl
-  front-set (y ∷ xs) zero zero x = refl
-  front-set (y ∷ xs) zero (suc i) x = refl
-  front-set (y ∷ xs) (suc n) zero x = refl
-  front-set (y ∷ xs) (suc n) (suc i) x = ap (λ (zs : List A). y ∷ zs) (front-set xs n i x)
-
-  -- a change past the front
-  pub front-unset : (xs : List A) (n i : ℕ) (x : A) → n ≤ i → take n xs ≡ set (take n xs) i x
-  front-unset xs n i x h = sym (set_past (take n xs) i x (simp length-take (omega arith)))
+pub set-held : (hs hs' : List HeldInput) (k : ℕ) (h : HeldInput) (z : ℤ) → hs' ≡ set hs k (record { input = h.input; setting = z }) → Some h ≡ slice_get hs k
+    → (inputs_of hs' ≡ inputs_of hs) × (settings_of hs' ≡ set (settings_of hs) k z)
+set-held hs hs' k h z e at =
+    (ap inputs_of e ∙ inputs-set hs k h z at, ap settings_of e ∙ map-set (λ (y : HeldInput). y.setting) hs k (record { input = h.input; setting = z }))

@@ -12,15 +12,14 @@ use Rattle.rules.specs.Safety.{SafeParts}
 use Rattle.rules.specs.Tables.{routine_of}
 use Rattle.rules.specs.Ways.{input_on}
 use Rattle.rules.proofs.Sheets.{well-made}
-use Rattle.rules.specs.Faults.{Fault, fixed, Meets}
+use Rattle.rules.specs.Faults.{Fault, Meets}
 use Rattle.sheet.specs.Sheets.{sheet_of}
 use Rattle.sheet.specs.declared.refusals.Refusal.{Refusal}
-use Rattle.sheet.specs.declared.refusals.Refusal.TheVariants.{Running as RunsAlready}
 use Rattle.checker.proofs.Meeting.{meets-ok, meets-err}
 use Rattle.bay.specs.Calls
 use Rattle.bay.specs.Calls.{Happens, offer_taken, offer_refused}
 use Rattle.bay.specs.Calm.{CanTrap, settled}
-use Rattle.bay.specs.Model.{View, by_mode, holding, offer_after, offer_answer, takes}
+use Rattle.bay.specs.Model.{View, by_mode, holding, offer_after, takes}
 use Rattle.bay.specs.Views.{offered}
 use Rattle.bay.specs.declared.Mode.{Mode}
 use Rattle.bay.specs.declared.Mode.TheVariants.{Empty, Held, Running}
@@ -48,32 +47,20 @@ starts-safe d s safe t = safe.untrapped t.state t.reached t.trap t.traps
 
 -- an offer to a bay that does not run
 module _ (v v' : View) (judge : List ℕ → Result ℕ Fault) (bs : List ℕ) (rests : v.mode ≡ Running → ⊥) where
-  abbrev OfferClauses : Result ℕ Refusal → Type 0
-  OfferClauses r = Meets r (offer_answer judge bs v) × (v' ≡ offer_after judge bs v) × Happens v (Calls.offer judge bs) (offered r) v'
-
-  -- at rest the answer is as the sheet is judged
-  answered : (m : Mode) → v.mode ≡ m → (r : Result ℕ Refusal) → Meets r (judge bs) → Meets r (by_mode m (judge bs) (judge bs) (Err (fixed RunsAlready)))
-  answered Empty e r h = h
-  answered Held e r h = h
-  answered Running e r h = absurd (rests e)
-
+  -- at rest the bay is left as the sheet is judged
   left : (m : Mode) → v.mode ≡ m → v' ≡ takes v (judge bs) (sheet_of bs) → v' ≡ by_mode m (takes v (judge bs) (sheet_of bs)) (takes v (judge bs) (sheet_of bs)) v
   left Empty e h = h
   left Held e h = h
   left Running e h = absurd (rests e)
 
-  pub taken-clauses : (n : ℕ) (s : Parts) → Meets (Ok n) (judge bs) → sheet_of bs ≡ Ok s → v' ≡ holding s → OfferClauses (Ok n)
-  taken-clauses n s h read after =
-      let judged = meets-ok n (judge bs) h in (
-        answered v.mode refl (Ok n) h,
-        left v.mode refl (after ∙ sym (ap₂ (takes v) judged read)),
-        offer_taken refl rests judged read refl after,
-      )
+  pub taken-after : (n : ℕ) (s : Parts) → Meets (Ok n) (judge bs) → sheet_of bs ≡ Ok s → v' ≡ holding s → v' ≡ offer_after judge bs v
+  taken-after n s h read after = left v.mode refl (after ∙ sym (ap₂ (takes v) (meets-ok n (judge bs) h) read))
 
-  pub refused-clauses : (r : Refusal) → Meets (Err r) (judge bs) → v' ≡ v → OfferClauses (Err r)
-  refused-clauses r h after =
-      let f = meets-err r (judge bs) h in (
-        answered v.mode refl (Err r) h,
-        left v.mode refl (after ∙ sym (ap (λ (j : Result ℕ Fault). takes v j (sheet_of bs)) f.1)),
-        offer_refused refl rests f.1 f.2 refl after,
-      )
+  pub taken-rule : (n : ℕ) (s : Parts) → Meets (Ok n) (judge bs) → sheet_of bs ≡ Ok s → v' ≡ holding s → Happens v (Calls.offer judge bs) (Calls.taken n) v'
+  taken-rule n s h read after = offer_taken refl rests (meets-ok n (judge bs) h) read refl after
+
+  pub refused-rule : (r : Refusal) (answer : Result ℕ Refusal) → answer ≡ Err r → Meets (Err r) (judge bs) → v' ≡ v
+      → Happens v (Calls.offer judge bs) (offered answer) v'
+  refused-rule r answer is h after =
+      let f = meets-err r (judge bs) h in
+      offer_refused refl rests f.1 f.2 (ap offered is) after

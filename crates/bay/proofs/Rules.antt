@@ -1,7 +1,7 @@
 -- What each call does is a case of the rules. Assumes nothing.
 use Rattle.std.proofs.Common.{◌≡◌, ℕ, Bool, true, false, cond, ltb, set, ℤ, Some, None, Ok, Err, Option, sym, refl, ap, ◌∙◌, subst, arith}
 use Rattle.std.proofs.lemmas.Bool.{ltb-true, ltb-false}
-use Rattle.number.specs.Codes.{nth}
+use Rattle.std.specs.List.{slice_get}
 use Rattle.machine.specs.Imp.{look_up}
 use Rattle.machine.specs.Inputs.{allows}
 use Rattle.machine.specs.Runs.{start}
@@ -79,7 +79,7 @@ pub reading-setting : Reading ≡ Setting → ⊥
 reading-setting q = let n : ◌≡◌ {A = ℕ} 0 1 = ap kind_number q in omega arith
 
 module _ (v : View) (k : ℕ) (z : ℤ) (holds : v.mode ≡ Empty → ⊥) where
-  kind-happens : (i : Input) (kind : InputKind) → nth v.inputs k ≡ Some i → i.kind ≡ kind → Case v (Calls.change k z) (set_kind v k z i kind)
+  kind-happens : (i : Input) (kind : InputKind) → slice_get v.inputs k ≡ Some i → i.kind ≡ kind → Case v (Calls.change k z) (set_kind v k z i kind)
   kind-happens i Reading at e = set_nothing refl holds (λ j s. reading-setting (sym e ∙ ap (λ (n : Input). n.kind) (some_same (sym at ∙ s.0)) ∙ s.1)) refl refl
   kind-happens i Setting at e = by (allows i z) refl
     where
@@ -87,17 +87,9 @@ module _ (v : View) (k : ℕ) (z : ℤ) (holds : v.mode ≡ Empty → ⊥) where
       by true h = set_changed refl holds (at, e) h refl refl
       by false h = set_outside refl holds (at, e) h refl refl
 
-  input-happens : (o : Option Input) → nth v.inputs k ≡ o → Case v (Calls.change k z) (set_to v k z o)
+  input-happens : (o : Option Input) → slice_get v.inputs k ≡ o → Case v (Calls.change k z) (set_to v k z o)
   input-happens None at = set_nothing refl holds (λ j s. none-some (sym at ∙ s.0)) refl refl
   input-happens (Some i) at = kind-happens i i.kind at refl
-
-pub set-happens : (v : View) (k : ℕ) (z : ℤ) → Case v (Calls.change k z) (set_of k z v)
-set-happens v k z = by v.mode refl
-  where
-    by : (m : Mode) → v.mode ≡ m → Case v (Calls.change k z) (by_mode m (Err NothingHeld, v) (set_to v k z (nth v.inputs k)) (set_to v k z (nth v.inputs k)))
-    by Empty e = nothing_held e tt refl refl
-    by Held e = input-happens v k z (held-some v e) (nth v.inputs k) refl
-    by Running e = input-happens v k z (running-some v e) (nth v.inputs k) refl
 
 -- a show
 pub show-happens : (v : View) (x : ℕ) → Happens v (Calls.show x) (told (show_of x v)) v
@@ -121,7 +113,18 @@ as-case v v' c a b w ea ev h = subst (λ (x : Answer). Happens v c x v') (sym ea
 abbrev SetClauses : View → View → ℕ → ℤ → Done → Type 0
 SetClauses v v' k z r = (r ≡ (set_of k z v).0) × (v' ≡ (set_of k z v).1) × Happens v (Calls.change k z) (finished r) v'
 
-pub set_clauses : (v v' : View) (k : ℕ) (z z' : ℤ) (r : Done) → z' ≡ z → r ≡ (set_of k z' v).0 → v' ≡ (set_of k z' v).1 → SetClauses v v' k z r
-set_clauses v v' k z z' r same value after =
-    subst (λ (y : ℤ). SetClauses v v' k y r) same
-    (value, after, as-case v v' (Calls.change k z') _ _ _ (ap finished value) after (set-happens v k z'))
+-- where a bay holds something, a call that needs no more goes on
+by_some : {A : Type 0} (m : Mode) (e x : A) → (m ≡ Empty → ⊥) → by_mode m e x x ≡ x
+by_some Empty e x holds = absurd (holds refl)
+by_some Held e x holds = refl
+by_some Running e x holds = refl
+
+pub set_clauses : (v v' : View) (k : ℕ) (z z' : ℤ) (r : Done) → z' ≡ z → (v.mode ≡ Empty → ⊥)
+    → r ≡ (set_to v k z' (slice_get v.inputs k)).0 → v' ≡ (set_to v k z' (slice_get v.inputs k)).1 → SetClauses v v' k z r
+set_clauses v v' k z z' r same holds value after =
+    let is = sym (by_some v.mode (Err NothingHeld, v) (set_to v k z' (slice_get v.inputs k)) holds) in
+    subst (λ (y : ℤ). SetClauses v v' k y r) same (
+      value ∙ ap (λ (p : Done × View). p.0) is,
+      after ∙ ap (λ (p : Done × View). p.1) is,
+      as-case v v' (Calls.change k z') _ _ _ (ap finished value) after (input-happens v k z' holds (slice_get v.inputs k) refl),
+    )

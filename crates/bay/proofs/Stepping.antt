@@ -2,7 +2,7 @@
 use Rattle.std.proofs.Common.{◌≡◌, ℕ, zero, suc, Bool, true, false, cond, List, [], ◌∷◌, get_or, set, ℤ, pos, Some, None, Ok, Err, Option, sym, refl, ap, ◌∙◌, subst, ap₂, arith}
 use Rattle.std.proofs.lemmas.Bool.{and_parts, and_from}
 use Rattle.scan.proofs.Scans.{ok_same, err-is-not-ok}
-use Rattle.number.specs.Codes.{nth}
+use Rattle.std.specs.List.{slice_get}
 use Rattle.machine.specs.Inputs.{allows, may_give}
 use Rattle.machine.specs.Runs.{Spot, row_on, stays}
 use Rattle.machine.specs.Steps.{MayTake, Told}
@@ -34,13 +34,13 @@ some_same : {A : Type 0} {x y : A} → ◌≡◌ {A = Option A} (Some x) (Some y
 some_same {x} q = ap (value x) q
 
 -- input k may give what it allows
-gives : (inputs : List Input) (k : ℕ) (i : Input) (z : ℤ) → nth inputs k ≡ Some i → allows i z ≡ true → may_give inputs k z ≡ true
+gives : (inputs : List Input) (k : ℕ) (i : Input) (z : ℤ) → slice_get inputs k ≡ Some i → allows i z ≡ true → may_give inputs k z ≡ true
 gives [] k i z e h = absurd (none-some e)
 gives (j ∷ inputs) zero i z e h = ap (λ (n : Input). allows n z) (some_same e) ∙ h
 gives (j ∷ inputs) (suc k) i z e h = gives inputs k i z e h
 
 -- a setting is one that its input allows
-setting-allowed : (inputs : List Input) (settings : List ℤ) (k : ℕ) (i : Input) → settled inputs settings ≡ true → nth inputs k ≡ Some i
+setting-allowed : (inputs : List Input) (settings : List ℤ) (k : ℕ) (i : Input) → settled inputs settings ≡ true → slice_get inputs k ≡ Some i
     → allows i (get_or settings k (pos 0)) ≡ true
 setting-allowed [] settings k i s e = absurd (none-some e)
 setting-allowed (j ∷ inputs) [] k i s e = absurd (false-true s)
@@ -51,7 +51,7 @@ setting-allowed (j ∷ inputs) (z ∷ settings) zero i s e = ap (λ (n : Input).
 setting-allowed (j ∷ inputs) (z ∷ settings) (suc k) i s e = setting-allowed inputs settings k i (and_parts (allows j z) (settled inputs settings) s).1 e
 
 -- and stays so when another is set that it allows
-pub set-settled : (inputs : List Input) (settings : List ℤ) (k : ℕ) (i : Input) (z : ℤ) → settled inputs settings ≡ true → nth inputs k ≡ Some i
+pub set-settled : (inputs : List Input) (settings : List ℤ) (k : ℕ) (i : Input) (z : ℤ) → settled inputs settings ≡ true → slice_get inputs k ≡ Some i
     → allows i z ≡ true → settled inputs (set settings k z) ≡ true
 set-settled [] settings k i z s e h = refl
 set-settled (j ∷ inputs) [] k i z s e h = s
@@ -70,7 +70,7 @@ kind-gives i setting z c Reading h e = by (allows i z) refl e
     by false t q = absurd (err-is-not-ok q)
 kind-gives i setting z c Setting h e = ap (allows i) (sym (ok_same e)) ∙ h
 
-input-gives : (inputs : List Input) (settings : List ℤ) (k : ℕ) (z c : ℤ) (o : Option Input) → settled inputs settings ≡ true → nth inputs k ≡ o
+input-gives : (inputs : List Input) (settings : List ℤ) (k : ℕ) (z c : ℤ) (o : Option Input) → settled inputs settings ≡ true → slice_get inputs k ≡ o
     → from_input o (get_or settings k (pos 0)) z ≡ Ok c → may_give inputs k c ≡ true
 input-gives inputs settings k z c None s at e = absurd (err-is-not-ok e)
 input-gives inputs settings k z c (Some i) s at e =
@@ -79,7 +79,7 @@ input-gives inputs settings k z c (Some i) s at e =
 pub may-take : (v : View) (z c : ℤ) (row : Row) → settled v.inputs v.settings ≡ true → taken_by v z row ≡ Ok c → MayTake v.inputs row c
 may-take v z c End s e = tt
 may-take v z c (Put x n t) s e = tt
-may-take v z c (Take x k t) s e = input-gives v.inputs v.settings k z c (nth v.inputs k) s refl e
+may-take v z c (Take x k t) s e = input-gives v.inputs v.settings k z c (slice_get v.inputs k) s refl e
 may-take v z c (Work x op a b t) s e = tt
 may-take v z c (Fork rel a b t u) s e = tt
 
@@ -107,7 +107,7 @@ module _ (inputs : List Input) (rows : List Row) (s s' : Spot) (c : ℤ) (calm :
 
 -- what a bay keeps to, where a setting has been changed
 pub setting_kept : (is₀ is₁ : List Input) (zs₀ zs₁ : List ℤ) (rows : List Row) (s₀ s₁ : Spot) (k : ℕ) (i : Input) (z : ℤ)
-    → is₁ ≡ is₀ → zs₁ ≡ set zs₀ k z → settled is₀ zs₀ ≡ true → Some i ≡ nth is₀ k → allows i z ≡ true
+    → is₁ ≡ is₀ → zs₁ ≡ set zs₀ k z → settled is₀ zs₀ ≡ true → Some i ≡ slice_get is₀ k → allows i z ≡ true
     → (CanTrap is₀ rows s₀ → ⊥) → (CanTrap is₀ rows s₁ → ⊥)
     → (settled is₁ zs₁ ≡ true) × (CanTrap is₁ rows s₀ → ⊥) × (CanTrap is₁ rows s₁ → ⊥)
 setting_kept is₀ is₁ zs₀ zs₁ rows s₀ s₁ k i z same changed before at allowed safe calm = (

@@ -1,7 +1,7 @@
 -- What a step does is a case of the rules. Assumes nothing.
 use Rattle.std.proofs.Common.{◌≡◌, ℕ, Bool, true, false, cond, get_or, set, ℤ, pos, IfOk, Some, None, Ok, Err, Option, Result, sym, refl, ap, ◌∙◌, subst, arith}
 use Rattle.scan.proofs.Scans.{err-is-not-ok, ok_same}
-use Rattle.number.specs.Codes.{nth}
+use Rattle.std.specs.List.{slice_get}
 use Rattle.machine.specs.Inputs.{allows}
 use Rattle.machine.specs.Runs.{Spot, at}
 use Rattle.machine.specs.Steps.{outcome_of, after_step, Told}
@@ -53,7 +53,7 @@ module _ (v : View) (z : ℤ) (runs : v.mode ≡ Running) (kept : settled v.inpu
   kind-refuses i Setting d e is q = absurd (err-is-not-ok (sym q))
 
   -- a take that is refused
-  input-refuses : (k : ℕ) (o : Option Input) (d : ℤ) (e : Refusal) → nth v.inputs k ≡ o → from_input o d z ≡ Err e
+  input-refuses : (k : ℕ) (o : Option Input) (d : ℤ) (e : Refusal) → slice_get v.inputs k ≡ o → from_input o d z ≡ Err e
       → (e ≡ ReadingOutside) × ((i : Input) → IsSetting v k i → ⊥) × ((i : Input) → IsReading v k i → allows i z ≡ false)
   input-refuses k None d e at q = (sym (error-same q), (λ i s. none-some (sym at ∙ s.0)), (λ i s. absurd (none-some (sym at ∙ s.0))))
     where
@@ -74,13 +74,13 @@ module _ (v : View) (z : ℤ) (runs : v.mode ≡ Running) (kept : settled v.inpu
   take-refused End e is q = absurd (err-is-not-ok (sym q))
   take-refused (Put x n t) e is q = absurd (err-is-not-ok (sym q))
   take-refused (Take x k t) e is q =
-      let r = input-refuses k (nth v.inputs k) (get_or v.settings k (pos 0)) e refl q in
+      let r = input-refuses k (slice_get v.inputs k) (get_or v.settings k (pos 0)) e refl q in
       step_outside refl runs is r.1 r.2 (ap Calls.refused r.0) refl
   take-refused (Work x op a b t) e is q = absurd (err-is-not-ok (sym q))
   take-refused (Fork rel a b t u) e is q = absurd (err-is-not-ok (sym q))
 
   -- what a take took
-  taken_as : (k : ℕ) (o : Option Input) (c : ℤ) → nth v.inputs k ≡ o → from_input o (get_or v.settings k (pos 0)) z ≡ Ok c
+  taken_as : (k : ℕ) (o : Option Input) (c : ℤ) → slice_get v.inputs k ≡ o → from_input o (get_or v.settings k (pos 0)) z ≡ Ok c
       → ((i : Input) → IsSetting v k i → c ≡ get_or v.settings k (pos 0)) × ((i : Input) → IsReading v k i → c ≡ z)
   taken_as k None c at q = absurd (err-is-not-ok q)
   taken_as k (Some n) c at q = by n.kind refl q
@@ -97,10 +97,10 @@ module _ (v : View) (z : ℤ) (runs : v.mode ≡ Running) (kept : settled v.inpu
   took : (row : Row) (c : ℤ) → row_now v ≡ row → taken_by v z row ≡ Ok c → Took v z (after_step row v.state c)
   took row c is q = record {
     setting = λ x k t i e s.
-        let r = taken_as k (nth v.inputs k) c refl (subst (λ (w : Row). taken_by v z w ≡ Ok c) (sym is ∙ e) q) in
+        let r = taken_as k (slice_get v.inputs k) c refl (subst (λ (w : Row). taken_by v z w ≡ Ok c) (sym is ∙ e) q) in
         ap (λ (w : Row). after_step w v.state c) (sym is ∙ e) ∙ ap (λ (y : ℤ). at t (set v.state.locals x y)) (r.0 i s);
     reading = λ x k t i e s.
-        let r = taken_as k (nth v.inputs k) c refl (subst (λ (w : Row). taken_by v z w ≡ Ok c) (sym is ∙ e) q) in
+        let r = taken_as k (slice_get v.inputs k) c refl (subst (λ (w : Row). taken_by v z w ≡ Ok c) (sym is ∙ e) q) in
         ap (λ (w : Row). after_step w v.state c) (sym is ∙ e) ∙ ap (λ (y : ℤ). at t (set v.state.locals x y)) (r.1 i s);
   }
 

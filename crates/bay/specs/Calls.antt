@@ -1,6 +1,6 @@
 -- The rules of the six calls, one case for each: before, call, answer, after. Assumes nothing.
 use Rattle.std.specs.Prelude.{◌≡◌, ℕ, ◌<◌, ◌≤◌, Bool, true, false, List, ℤ, pos, Some, Ok, Err, Result, slice_index_or, slice_set}
-use Rattle.number.specs.Codes.{nth}
+use Rattle.std.specs.List.{slice_get}
 use Rattle.number.specs.declared.Trap.{Trap}
 use Rattle.machine.specs.Imp.{look_up}
 use Rattle.machine.specs.Inputs.{allows}
@@ -71,10 +71,10 @@ Rests v = v.mode ≡ Running → ⊥
 
 -- input k is a setting, or a reading
 abbrev pub IsSetting : View → ℕ → Input → Type 0
-IsSetting v k i = (nth v.inputs k ≡ Some i) × (i.kind ≡ Setting)
+IsSetting v k i = (slice_get v.inputs k ≡ Some i) × (i.kind ≡ Setting)
 
 abbrev pub IsReading : View → ℕ → Input → Type 0
-IsReading v k i = (nth v.inputs k ≡ Some i) × (i.kind ≡ Reading)
+IsReading v k i = (slice_get v.inputs k ≡ Some i) × (i.kind ≡ Reading)
 
 -- a take sets its variable to the setting, or to the reading given with the call
 pub record Took (v : View) (z : ℤ) (s : Spot) : Type 0 where

@@ -1,6 +1,6 @@
 -- The bay as a transition system: what it holds, and what each call answers and leaves. Assumes nothing.
 use Rattle.std.specs.Prelude.{ℕ, Bool, true, false, cond, List, [], map, ℤ, pos, Some, None, Ok, Err, Option, Result, nat_lt, slice_index_or, slice_set}
-use Rattle.number.specs.Codes.{nth}
+use Rattle.std.specs.List.{slice_get}
 use Rattle.machine.specs.Imp.{look_up}
 use Rattle.machine.specs.Inputs.{allows}
 use Rattle.machine.specs.Runs.{Spot, start, row_on}
@@ -94,7 +94,7 @@ set_to v k z None = (Err NoSetting, v)
 set_to v k z (Some i) = set_kind v k z i i.kind
 
 abbrev pub set_of : ℕ → ℤ → View → Done × View
-set_of k z v = by_mode v.mode (Err NothingHeld, v) (set_to v k z (nth v.inputs k)) (set_to v k z (nth v.inputs k))
+set_of k z v = by_mode v.mode (Err NothingHeld, v) (set_to v k z (slice_get v.inputs k)) (set_to v k z (slice_get v.inputs k))
 
 -- what a take of an input takes: the setting, or the reading given, if that is in the set
 abbrev pub from_kind : Input → ℤ → ℤ → InputKind → Result ℤ Refusal
@@ -109,7 +109,7 @@ from_input (Some i) setting z = from_kind i setting z i.kind
 abbrev pub taken_by : View → ℤ → Row → Result ℤ Refusal
 taken_by v z End = Ok z
 taken_by v z (Put x n t) = Ok z
-taken_by v z (Take x k t) = from_input (nth v.inputs k) (slice_index_or v.settings k (pos 0)) z
+taken_by v z (Take x k t) = from_input (slice_get v.inputs k) (slice_index_or v.settings k (pos 0)) z
 taken_by v z (Work x op a b t) = Ok z
 taken_by v z (Fork rel a b t u) = Ok z
 

@@ -8,7 +8,7 @@ use Rattle.sheet.specs.declared.refusals.Refusal.{Refusal}
 use Rattle.bay.specs.Calls
 use Rattle.bay.specs.Calls.{Answer}
 use Rattle.bay.specs.Model.{View, row_now, taken_by}
-use Rattle.bay.specs.Tables.{held_inputs, held_rows, held_settings}
+use Rattle.bay.specs.Tables.{held, held_inputs, held_settings}
 use Rattle.bay.specs.declared.Shown.{Shown}
 use Rattle.bay.specs.declared.bays.Bay.{Bay}
 
@@ -18,7 +18,7 @@ view b = record {
   variables = b.variables;
   inputs = held_inputs b.inputs;
   settings = held_settings b.inputs;
-  rows = held_rows b.rows;
+  rows = held b.rows;
   state = shown b.state;
 }
 

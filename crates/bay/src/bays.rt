@@ -3,12 +3,12 @@ ghost use Rattle.std.specs.Prelude.{◌≡◌, true};
 ghost use Rattle.machine.specs.Runs.{start};
 ghost use Rattle.machine.specs.Steps.{shown};
 ghost use Rattle.bay.specs.Calm.{CanTrap, settled};
-ghost use Rattle.bay.specs.Tables.{held_inputs, held_rows, held_settings};
+ghost use Rattle.bay.specs.Tables.{held, held_inputs, held_settings};
 
 use crate::Mode;
-use crate::inputs::InputTable;
-use crate::rows::RowTable;
-use machine::State;
+use crate::inputs::HeldInput;
+use crate::table::Table;
+use machine::{MAX_INPUTS, MAX_PLACES, Row, State};
 
 mod calls;
 mod offers;
@@ -20,10 +20,10 @@ mod views;
 pub struct Bay {
     mode: Mode,
     variables: usize,
-    inputs: InputTable,
-    rows: RowTable,
+    inputs: Table<HeldInput, MAX_INPUTS>,
+    rows: Table<Row, MAX_PLACES>,
     state: State,
     ghost set: { settled (held_inputs inputs) (held_settings inputs) ≡ true },
-    ghost safe: { CanTrap (held_inputs inputs) (held_rows rows) start → ⊥ },
-    ghost calm: { CanTrap (held_inputs inputs) (held_rows rows) (shown state) → ⊥ },
+    ghost safe: { CanTrap (held_inputs inputs) (held rows) start → ⊥ },
+    ghost calm: { CanTrap (held_inputs inputs) (held rows) (shown state) → ⊥ },
 }

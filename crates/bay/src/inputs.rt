@@ -1,15 +1,34 @@
-// The inputs that a bay holds, with their settings.
-ghost use Rattle.std.specs.Prelude.{◌≤◌};
+// The inputs of a sheet that has been read, with their settings.
+ghost use Rattle.std.specs.Prelude.{◌≡◌, map};
+ghost use Rattle.sheet.specs.Views.{seen};
+ghost use Rattle.checker.specs.Readable.{Readable};
+ghost use Rattle.rules.specs.Tables.{routine_of};
+ghost use Rattle.bay.specs.Tables.{held_inputs, held_settings};
 
-mod table;
-
+use crate::table::Table;
+use checker::input_on;
 use machine::{Input, MAX_INPUTS};
+use sheet::Sheet;
 
-/// A table of inputs: the first `count` of them are held, each with a setting.
+/// An input with its setting.
 #[derive(Clone, Copy)]
-pub struct InputTable {
-    inputs: [Input; MAX_INPUTS],
-    settings: [i32; MAX_INPUTS],
-    count: usize,
-    ghost fits: { count ≤ 8 },
+pub struct HeldInput {
+    pub input: Input,
+    pub setting: i32,
+}
+
+impl Table<HeldInput, MAX_INPUTS> {
+    /// Holds the inputs of a sheet that has been read, each setting at its lo.
+    pub(crate) fn fill(&mut self, sheet: &Sheet<'_>)
+        requires { Readable (seen sheet.now) }
+        ensures inputs { held_inputs self.new ≡ (routine_of (seen sheet.now)).inputs }
+        ensures settings { held_settings self.new ≡ map (λ i. i.lo) (routine_of (seen sheet.now)).inputs }
+    {
+        self.clear();
+        for number in 0..sheet.input_count {
+            let input = input_on(sheet, number);
+            let setting = input.lo;
+            self.push(HeldInput { input, setting });
+        }
+    }
 }

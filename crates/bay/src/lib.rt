@@ -10,11 +10,12 @@ use layers::pile::Domains;
 mod bays;
 mod inputs;
 mod rows;
+mod table;
 
 pub use bays::Bay;
 
 /// Whether the bay holds a routine, and whether that runs.
-#[derive(Clone, Copy)]
+#[derive(Clone, Copy, PartialEq, Eq, Debug)]
 pub enum Mode {
     Empty,
     Held,
@@ -22,7 +23,7 @@ pub enum Mode {
 }
 
 /// What a bay shows: whether its routine runs, the place it is at, and the value of one variable.
-#[derive(Clone, Copy)]
+#[derive(Clone, Copy, PartialEq, Eq, Debug)]
 pub struct Shown {
     pub running: bool,
     pub place: usize,

@@ -1,14 +1,24 @@
-// The rows that a bay holds.
-ghost use Rattle.std.specs.Prelude.{◌≤◌};
+// The rows of a sheet that has been read.
+ghost use Rattle.std.specs.Prelude.{◌≡◌};
+ghost use Rattle.sheet.specs.Views.{seen};
+ghost use Rattle.checker.specs.Readable.{Readable};
+ghost use Rattle.rules.specs.Tables.{routine_of};
+ghost use Rattle.bay.specs.Tables.{held};
 
-mod table;
-
+use crate::table::Table;
+use checker::row_on;
 use machine::{MAX_PLACES, Row};
+use sheet::Sheet;
 
-/// A table of rows: the first `count` of them are held, the others are left over.
-#[derive(Clone, Copy)]
-pub struct RowTable {
-    rows: [Row; MAX_PLACES],
-    count: usize,
-    ghost fits: { count ≤ 256 },
+impl Table<Row, MAX_PLACES> {
+    /// Holds the rows of a sheet that has been read.
+    pub(crate) fn fill(&mut self, sheet: &Sheet<'_>)
+        requires { Readable (seen sheet.now) }
+        ensures { held self.new ≡ (routine_of (seen sheet.now)).rows }
+    {
+        self.clear();
+        for place in 0..sheet.places {
+            self.push(row_on(sheet, place));
+        }
+    }
 }

@@ -1,6 +1,6 @@
 // Starting, stopping, setting and stepping what is held.
 ghost use Rattle.std.specs.Prelude.{◌≡◌, IfOk};
-ghost use Rattle.number.specs.Codes.{nth};
+ghost use Rattle.std.specs.List.{slice_get};
 ghost use Rattle.machine.specs.Inputs.{allows};
 ghost use Rattle.machine.specs.Steps.{after_step, outcome_of, shown, MayTake, Told};
 ghost use Rattle.bay.specs.Calls.{Happens, begin, change as changing, step as stepping, stop as stopping};
@@ -10,6 +10,7 @@ ghost use Rattle.bay.specs.Views.{view, finished, stepped, NoTrap, ToldOf};
 
 use super::Bay;
 use crate::Mode;
+use crate::inputs::HeldInput;
 use machine::{Input, InputKind, Outcome, Row, State};
 use sheet::Refusal;
 
@@ -17,7 +18,7 @@ use sheet::Refusal;
 fn is_allowed(input: Input, value: i32) -> bool
     ensures { result ≡ allows input value }
 {
-    input.lo <= value && value <= input.hi
+    (input.lo..=input.hi).contains(&value)
 }
 
 impl Bay {
@@ -27,7 +28,15 @@ impl Bay {
         ensures after { view self.new ≡ (start_of (view self.old)).1 }
         ensures rule { Happens (view self.old) begin (finished result) (view self.new) }
     {
-        self.try_start()
+        match self.mode {
+            Mode::Empty => Err(Refusal::NothingHeld),
+            Mode::Running => Err(Refusal::Running),
+            Mode::Held => {
+                self.mode = Mode::Running;
+                self.state = State::start();
+                Ok(())
+            }
+        }
     }
 
     /// Holds the routine that runs, where it is.
@@ -36,7 +45,14 @@ impl Bay {
         ensures after { view self.new ≡ (stop_of (view self.old)).1 }
         ensures rule { Happens (view self.old) stopping (finished result) (view self.new) }
     {
-        self.try_stop()
+        match self.mode {
+            Mode::Empty => Err(Refusal::NothingHeld),
+            Mode::Held => Err(Refusal::NotRunning),
+            Mode::Running => {
+                self.mode = Mode::Held;
+                Ok(())
+            }
+        }
     }
 
     /// Changes the setting of the input with this number.
@@ -45,7 +61,10 @@ impl Bay {
         ensures after { view self.new ≡ (set_of number value (view self.old)).1 }
         ensures rule { Happens (view self.old) (changing number value) (finished result) (view self.new) }
     {
-        self.try_set(number, value)
+        match self.mode {
+            Mode::Empty => Err(Refusal::NothingHeld),
+            _ => self.change(number, value),
+        }
     }
 
     /// Makes one step. A take uses the setting of its input, or the reading given; other rows ignore it.
@@ -59,63 +78,35 @@ impl Bay {
         self.try_step(reading)
     }
 
-    fn try_start(&mut self) -> Result<(), Refusal>
-        ensures value { result ≡ (start_of (view self.old)).0 }
-        ensures after { view self.new ≡ (start_of (view self.old)).1 }
-    {
-        match self.mode {
-            Mode::Empty => Err(Refusal::NothingHeld),
-            Mode::Running => Err(Refusal::Running),
-            Mode::Held => {
-                self.mode = Mode::Running;
-                self.state = State::start();
-                Ok(())
-            }
-        }
-    }
-
-    fn try_stop(&mut self) -> Result<(), Refusal>
-        ensures value { result ≡ (stop_of (view self.old)).0 }
-        ensures after { view self.new ≡ (stop_of (view self.old)).1 }
-    {
-        match self.mode {
-            Mode::Empty => Err(Refusal::NothingHeld),
-            Mode::Held => Err(Refusal::NotRunning),
-            Mode::Running => {
-                self.mode = Mode::Held;
-                Ok(())
-            }
-        }
-    }
-
-    fn try_set(&mut self, number: usize, value: i32) -> Result<(), Refusal>
-        ensures value { result ≡ (set_of number value (view self.old)).0 }
-        ensures after { view self.new ≡ (set_of number value (view self.old)).1 }
-    {
-        match self.mode {
-            Mode::Empty => Err(Refusal::NothingHeld),
-            _ => self.change(number, value),
-        }
-    }
-
     // Changes a setting of the routine that is held.
     fn change(&mut self, number: usize, value: i32) -> Result<(), Refusal>
-        ensures value { result ≡ (set_to (view self.old) number value (nth (held_inputs self.old.inputs) number)).0 }
-        ensures after { view self.new ≡ (set_to (view self.old) number value (nth (held_inputs self.old.inputs) number)).1 }
+        ensures value { result ≡ (set_to (view self.old) number value (slice_get (held_inputs self.old.inputs) number)).0 }
+        ensures after { view self.new ≡ (set_to (view self.old) number value (slice_get (held_inputs self.old.inputs) number)).1 }
     {
-        let Some(input) = self.inputs.input(number) else {
+        let Some(held) = self.inputs.get(number) else {
             return Err(Refusal::NoSetting);
         };
-        if let InputKind::Reading = input.kind {
-            return Err(Refusal::NoSetting);
+        match held.input.kind {
+            InputKind::Reading => Err(Refusal::NoSetting),
+            InputKind::Setting if is_allowed(held.input, value) => {
+                self.inputs.set(
+                    number,
+                    HeldInput {
+                        setting: value,
+                        ..held
+                    },
+                );
+                Ok(())
+            }
+            InputKind::Setting => Err(Refusal::SettingOutside),
         }
-        if !is_allowed(input, value) {
-            return Err(Refusal::SettingOutside);
-        }
-        let mut inputs = self.inputs;
-        inputs.set(number, value);
-        self.inputs = inputs;
-        Ok(())
+    }
+
+    // The row at the place; a place that is not held ends.
+    fn row(&self) -> Row
+        ensures { result ≡ row_now (view self.now) }
+    {
+        self.rows.get(self.state.place()).unwrap_or(Row::End)
     }
 
     // What the row takes: the setting of its input, or the reading given, if that is in the set.
@@ -125,16 +116,14 @@ impl Bay {
         let Row::Take { input: number, .. } = row else {
             return Ok(reading);
         };
-        let Some(input) = self.inputs.input(number as usize) else {
+        let Some(held) = self.inputs.get(usize::from(number)) else {
             return Err(Refusal::ReadingOutside);
         };
-        if let InputKind::Setting = input.kind {
-            return Ok(self.inputs.setting(number as usize));
+        match held.input.kind {
+            InputKind::Setting => Ok(held.setting),
+            InputKind::Reading if is_allowed(held.input, reading) => Ok(reading),
+            InputKind::Reading => Err(Refusal::ReadingOutside),
         }
-        if !is_allowed(input, reading) {
-            return Err(Refusal::ReadingOutside);
-        }
-        Ok(reading)
     }
 
     fn try_step(&mut self, reading: i32) -> Result<Outcome, Refusal>
@@ -146,11 +135,9 @@ impl Bay {
             Mode::Empty => Err(Refusal::NothingHeld),
             Mode::Held => Err(Refusal::NotRunning), // what does not run takes no step
             Mode::Running => {
-                let row = self.rows.row(self.state.place());
-                match self.taken_by(row, reading) {
-                    Ok(taken) => Ok(self.follow(row, taken)),
-                    Err(refusal) => Err(refusal),
-                }
+                let row = self.row();
+                let taken = self.taken_by(row, reading)?;
+                Ok(self.follow(row, taken))
             }
         }
     }
@@ -163,9 +150,7 @@ impl Bay {
         ensures after { view self.new ≡ with_state (after_step row (shown self.old.state) taken) (with_mode (mode_after result) (view self.old)) }
         ensures told { Told (held_inputs self.old.inputs) row (shown self.old.state) taken result (view self.new).state }
     {
-        let mut state = self.state;
-        let outcome = state.step(row, taken);
-        self.state = state;
+        let outcome = self.state.step(row, taken);
         self.mode = mode_after(outcome);
         outcome
     }
@@ -177,7 +162,6 @@ fn mode_after(outcome: Outcome) -> Mode
 {
     match outcome {
         Outcome::At { .. } => Mode::Running,
-        Outcome::Ended => Mode::Held,
-        Outcome::Trapped { .. } => Mode::Held,
+        Outcome::Ended | Outcome::Trapped { .. } => Mode::Held,
     }
 }

@@ -28,13 +28,9 @@ impl Bay {
         if let Mode::Running = self.mode {
             return Err(Refusal::Running);
         }
-        match taken::<D>(bytes) {
-            Ok(sheet) => {
-                self.hold(&sheet);
-                Ok(sheet.places)
-            }
-            Err(refusal) => Err(refusal),
-        }
+        let sheet = taken::<D>(bytes)?;
+        self.hold(&sheet);
+        Ok(sheet.places)
     }
 
     // Holds the routine of a sheet that has been taken.

@@ -1,14 +1,14 @@
 // Making a bay, and looking at it.
 ghost use Rattle.std.specs.Prelude.{◌≡◌};
 ghost use Rattle.bay.specs.Calls.{Happens, show as showing};
-ghost use Rattle.bay.specs.Model.{nothing, show_of, shows_of, is_running};
+ghost use Rattle.bay.specs.Model.{nothing, show_of};
 ghost use Rattle.bay.specs.Views.{view, told};
 
 use super::Bay;
-use crate::inputs::InputTable;
-use crate::rows::RowTable;
+use crate::inputs::HeldInput;
+use crate::table::Table;
 use crate::{Mode, Shown};
-use machine::State;
+use machine::{Input, InputKind, Row, State};
 use sheet::Refusal;
 
 impl Bay {
@@ -16,11 +16,16 @@ impl Bay {
     pub fn new() -> Bay
         ensures { view result ≡ nothing }
     {
+        let input = Input {
+            kind: InputKind::Reading,
+            lo: 0,
+            hi: 0,
+        };
         Bay {
             mode: Mode::Empty,
             variables: 0,
-            inputs: InputTable::new(),
-            rows: RowTable::new(),
+            inputs: Table::new(HeldInput { input, setting: 0 }),
+            rows: Table::new(Row::End),
             state: State::start(),
         }
     }
@@ -36,21 +41,14 @@ impl Bay {
     fn look(&self, variable: usize) -> Result<Shown, Refusal>
         ensures { result ≡ show_of variable (view self.now) }
     {
-        match self.mode {
-            Mode::Empty => Err(Refusal::NothingHeld),
-            Mode::Held => self.look_at(false, variable),
-            Mode::Running => self.look_at(true, variable),
+        if self.mode == Mode::Empty {
+            return Err(Refusal::NothingHeld);
         }
-    }
-
-    fn look_at(&self, running: bool, variable: usize) -> Result<Shown, Refusal>
-        ensures { running ≡ is_running self.now.mode → result ≡ shows_of variable (view self.now) }
-    {
         if variable >= self.variables {
             return Err(Refusal::NoVariable);
         }
         Ok(Shown {
-            running,
+            running: self.mode == Mode::Running,
             place: self.state.place(),
             value: self.state.value(variable),
         })

@@ -1,33 +1,40 @@
-use Rattle.std.proofs.Common.{refl}
+use Rattle.std.proofs.Common.{◌≡◌, Err, refl, rules}
 use Rattle.sheet.specs.Views.{seen}
 use Rattle.sheet.proofs.Accepted.{accepted}
 use Rattle.domain.specs.Carrier.{as_dom}
 use Rattle.rules.specs.Tables.{verdict_of}
 use Rattle.checker.proofs.Reading.{readable_of}
 use Rattle.bay.specs.Views.{view}
-use Rattle.bay.proofs.Offers.{starts-settled, starts-safe, taken-clauses, refused-clauses}
+use Rattle.bay.proofs.Offers.{starts-settled, starts-safe, taken-after, taken-rule, refused-rule}
 use Rattle.bay.proofs.bays.Bay.offer.Goals as goal
 
 pub hold-requires : goal.hold-requires
 hold-requires g c =
-    let s = seen c.in-Ok.sheet in
+    let s = seen c.in_ok-sheet.sheet in
     let bs = c.args.bytes.now in
     record {
-      readable = readable_of bs s c.in-Ok.ensures.formed;
-      settled = starts-settled bs s c.in-Ok.ensures.formed;
-      safe = starts-safe (as_dom _ g.D.Domain.describes g.D.Domain.ops) s c.in-Ok.ensures.safe;
+      readable = readable_of bs s c.in_ok-sheet.ensures.formed;
+      settled = starts-settled bs s c.in_ok-sheet.ensures.formed;
+      safe = starts-safe (as_dom _ g.D.Domain.describes g.D.Domain.ops) s c.in_ok-sheet.ensures.safe;
     }
 
-pub returns-in-Ok : goal.returns-in-Ok
-returns-in-Ok g c =
-    let s = seen c.in-Ok.sheet in
-    let bs = c.args.bytes.now in
-    let p = taken-clauses (view c.args.self.now) (view c.hold.new.self) (verdict_of g.D.Domain.ops) bs c.in_default.not-Running
-    c.in-Ok.sheet.places s c.in-Ok.ensures.value (accepted bs s c.in-Ok.ensures.formed) c.hold.ensures in
-    record { value = p.0; after = p.1; rule = p.2 }
-
-pub returns-in-Err : goal.returns-in-Err
-returns-in-Err g c =
+pub returns-in_err-sheet-clause-rule : goal.returns-in_err-sheet-clause-rule
+returns-in_err-sheet-clause-rule g c =
     let v = view c.args.self.now in
-    let p = refused-clauses v v (verdict_of g.D.Domain.ops) c.args.bytes.now c.in_default.not-Running c.in-Err.refusal c.in-Err.ensures.value refl in
-    record { value = p.0; after = p.1; rule = p.2 }
+    let r = c.in_err-sheet.field-0.0 in
+    let is : c.from_residual.result ≡ Err r = search rules in
+    refused-rule v v (verdict_of g.D.Domain.ops) c.args.bytes.now c.in_default.not-Running r _ is c.in_err-sheet.ensures.value refl
+
+pub returns-clause-rule : goal.returns-clause-rule
+returns-clause-rule g c =
+    let s = seen c.in_ok-sheet.sheet in
+    let bs = c.args.bytes.now in
+    taken-rule (view c.args.self.now) (view c.hold.new.self) (verdict_of g.D.Domain.ops) bs c.in_default.not-Running
+    c.in_ok-sheet.sheet.places s c.in_ok-sheet.ensures.value (accepted bs s c.in_ok-sheet.ensures.formed) c.hold.ensures
+
+pub returns-clause-after : goal.returns-clause-after
+returns-clause-after g c =
+    let s = seen c.in_ok-sheet.sheet in
+    let bs = c.args.bytes.now in
+    taken-after (view c.args.self.now) (view c.hold.new.self) (verdict_of g.D.Domain.ops) bs c.in_default.not-Running
+    c.in_ok-sheet.sheet.places s c.in_ok-sheet.ensures.value (accepted bs s c.in_ok-sheet.ensures.formed) c.hold.ensures

@@ -4,10 +4,7 @@ use Rattle.bay.specs.Views.{view, told}
 use Rattle.bay.proofs.Rules.{as-case, show-happens}
 use Rattle.bay.proofs.bays.Bay.show.Goals as goal
 
-pub returns : goal.returns
-returns c =
+pub returns-clause-rule : goal.returns-clause-rule
+returns-clause-rule c =
     let v = view c.args.self.now in
-    record {
-      value = c.look.ensures;
-      rule = as-case v v (Calls.show c.args.variable) _ _ _ (ap told c.look.ensures) refl (show-happens v c.args.variable);
-    }
+    as-case v v (Calls.show c.args.variable) _ _ _ (ap told c.look.ensures) refl (show-happens v c.args.variable)
