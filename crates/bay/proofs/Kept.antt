@@ -37,7 +37,7 @@ pub record Fine (a : Answer) (v : View) : Type 0 where
   pub quiet : traps_in a ≡ 0
   pub sound : Sound v
 
-abbrev mode_number : Mode → ℕ
+abbrev pub mode_number : Mode → ℕ
 mode_number Empty = 0
 mode_number Held = 1
 mode_number Running = 2

@@ -1,6 +1,7 @@
 -- What each call does is a case of the rules. Assumes nothing.
 use Rattle.std.proofs.Common.{◌≡◌, ℕ, Bool, true, false, cond, ltb, set, ℤ, Some, None, Ok, Err, Option, sym, refl, ap, ◌∙◌, subst, arith}
 use Rattle.std.proofs.lemmas.Bool.{ltb-true, ltb-false}
+use Rattle.std.proofs.lemmas.Option.{none-some, same_Some}
 use Rattle.std.specs.List.{slice_get}
 use Rattle.machine.specs.Imp.{look_up}
 use Rattle.machine.specs.Inputs.{allows}
@@ -15,13 +16,9 @@ use Rattle.bay.specs.Model.{View, Done, by_mode, start_of, stop_of, set_of, set_
 use Rattle.bay.specs.Views.{finished, told}
 use Rattle.bay.specs.declared.Mode.{Mode}
 use Rattle.bay.specs.declared.Mode.TheVariants.{Empty, Held, Running}
+use Rattle.bay.proofs.Kept.{mode_number}
 
--- the three modes are apart
-abbrev mode_number : Mode → ℕ
-mode_number Empty = 0
-mode_number Held = 1
-mode_number Running = 2
-
+-- the modes are apart
 held-some : (v : View) → v.mode ≡ Held → v.mode ≡ Empty → ⊥
 held-some v e q = let n : ◌≡◌ {A = ℕ} 1 0 = ap mode_number (sym e ∙ q) in omega arith
 
@@ -57,20 +54,6 @@ stop-happens v = by v.mode refl
     by Running e = stopped refl e refl refl
 
 -- a set, of a bay that holds something
-pub none-some : {A : Type 0} {x : A} → ◌≡◌ {A = Option A} None (Some x) → ⊥
-none-some {A} q = subst (λ (o : Option A). full o) (sym q) tt
-  where
-    full : Option A → Type 0
-    full None = ⊥
-    full (Some y) = Unit {0}
-
-abbrev value : {A : Type 0} → A → Option A → A
-value d None = d
-value d (Some x) = x
-
-pub some_same : {A : Type 0} {x y : A} → ◌≡◌ {A = Option A} (Some x) (Some y) → x ≡ y
-some_same {x} q = ap (value x) q
-
 abbrev kind_number : InputKind → ℕ
 kind_number Reading = 0
 kind_number Setting = 1
@@ -80,7 +63,7 @@ reading-setting q = let n : ◌≡◌ {A = ℕ} 0 1 = ap kind_number q in omega 
 
 module _ (v : View) (k : ℕ) (z : ℤ) (holds : v.mode ≡ Empty → ⊥) where
   kind-happens : (i : Input) (kind : InputKind) → slice_get v.inputs k ≡ Some i → i.kind ≡ kind → Case v (Calls.change k z) (set_kind v k z i kind)
-  kind-happens i Reading at e = set_nothing refl holds (λ j s. reading-setting (sym e ∙ ap (λ (n : Input). n.kind) (some_same (sym at ∙ s.0)) ∙ s.1)) refl refl
+  kind-happens i Reading at e = set_nothing refl holds (λ j s. reading-setting (sym e ∙ ap (λ (n : Input). n.kind) (same_Some _ _ (sym at ∙ s.0)) ∙ s.1)) refl refl
   kind-happens i Setting at e = by (allows i z) refl
     where
       by : (b : Bool) → allows i z ≡ b → Case v (Calls.change k z) (cond b (Ok tt, with_settings (set v.settings k z) v) (Err SettingOutside, v))
@@ -88,7 +71,7 @@ module _ (v : View) (k : ℕ) (z : ℤ) (holds : v.mode ≡ Empty → ⊥) where
       by false h = set_outside refl holds (at, e) h refl refl
 
   input-happens : (o : Option Input) → slice_get v.inputs k ≡ o → Case v (Calls.change k z) (set_to v k z o)
-  input-happens None at = set_nothing refl holds (λ j s. none-some (sym at ∙ s.0)) refl refl
+  input-happens None at = set_nothing refl holds (λ j s. none-some _ (sym at ∙ s.0)) refl refl
   input-happens (Some i) at = kind-happens i i.kind at refl
 
 -- a show

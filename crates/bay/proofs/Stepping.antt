@@ -2,6 +2,7 @@
 use Rattle.std.proofs.Common.{◌≡◌, ℕ, zero, suc, Bool, true, false, cond, List, [], ◌∷◌, get_or, set, ℤ, pos, Some, None, Ok, Err, Option, sym, refl, ap, ◌∙◌, subst, ap₂, arith}
 use Rattle.std.proofs.lemmas.Bool.{and_parts, and_from}
 use Rattle.scan.proofs.Scans.{ok_same, err-is-not-ok}
+use Rattle.std.proofs.lemmas.Option.{none-some, same_Some}
 use Rattle.std.specs.List.{slice_get}
 use Rattle.machine.specs.Inputs.{allows, may_give}
 use Rattle.machine.specs.Runs.{Spot, row_on, stays}
@@ -19,35 +20,21 @@ use Rattle.bay.specs.Calm.{CanTrap, settled}
 use Rattle.bay.specs.Model.{View, from_kind, from_input, taken_by}
 use Rattle.bay.specs.Views.{NoTrap}
 
-abbrev full : {A : Type 0} → Option A → Type 0
-full None = ⊥
-full (Some x) = Unit {0}
-
-none-some : {A : Type 0} {x : A} → ◌≡◌ {A = Option A} None (Some x) → ⊥
-none-some {A} q = subst (λ (o : Option A). full o) (sym q) tt
-
-abbrev value : {A : Type 0} → A → Option A → A
-value d None = d
-value d (Some x) = x
-
-some_same : {A : Type 0} {x y : A} → ◌≡◌ {A = Option A} (Some x) (Some y) → x ≡ y
-some_same {x} q = ap (value x) q
-
 -- input k may give what it allows
 gives : (inputs : List Input) (k : ℕ) (i : Input) (z : ℤ) → slice_get inputs k ≡ Some i → allows i z ≡ true → may_give inputs k z ≡ true
-gives [] k i z e h = absurd (none-some e)
-gives (j ∷ inputs) zero i z e h = ap (λ (n : Input). allows n z) (some_same e) ∙ h
+gives [] k i z e h = absurd (none-some _ e)
+gives (j ∷ inputs) zero i z e h = ap (λ (n : Input). allows n z) (same_Some _ _ e) ∙ h
 gives (j ∷ inputs) (suc k) i z e h = gives inputs k i z e h
 
 -- a setting is one that its input allows
 setting-allowed : (inputs : List Input) (settings : List ℤ) (k : ℕ) (i : Input) → settled inputs settings ≡ true → slice_get inputs k ≡ Some i
     → allows i (get_or settings k (pos 0)) ≡ true
-setting-allowed [] settings k i s e = absurd (none-some e)
+setting-allowed [] settings k i s e = absurd (none-some _ e)
 setting-allowed (j ∷ inputs) [] k i s e = absurd (false-true s)
   where
     false-true : false ≡ true → ⊥
     false-true q = subst (λ (b : Bool). cond b ⊥ (Unit {0})) q tt
-setting-allowed (j ∷ inputs) (z ∷ settings) zero i s e = ap (λ (n : Input). allows n z) (sym (some_same e)) ∙ (and_parts (allows j z) (settled inputs settings) s).0
+setting-allowed (j ∷ inputs) (z ∷ settings) zero i s e = ap (λ (n : Input). allows n z) (sym (same_Some _ _ e)) ∙ (and_parts (allows j z) (settled inputs settings) s).0
 setting-allowed (j ∷ inputs) (z ∷ settings) (suc k) i s e = setting-allowed inputs settings k i (and_parts (allows j z) (settled inputs settings) s).1 e
 
 -- and stays so when another is set that it allows
@@ -56,7 +43,7 @@ pub set-settled : (inputs : List Input) (settings : List ℤ) (k : ℕ) (i : Inp
 set-settled [] settings k i z s e h = refl
 set-settled (j ∷ inputs) [] k i z s e h = s
 set-settled (j ∷ inputs) (y ∷ settings) zero i z s e h =
-    and_from (allows j z) (settled inputs settings) (ap (λ (n : Input). allows n z) (some_same e) ∙ h) (and_parts (allows j y) (settled inputs settings) s).1
+    and_from (allows j z) (settled inputs settings) (ap (λ (n : Input). allows n z) (same_Some _ _ e) ∙ h) (and_parts (allows j y) (settled inputs settings) s).1
 set-settled (j ∷ inputs) (y ∷ settings) (suc k) i z s e h =
     let parts = and_parts (allows j y) (settled inputs settings) s in
     and_from (allows j y) (settled inputs (set settings k z)) parts.0 (set-settled inputs settings k i z parts.1 e h)
@@ -84,7 +71,7 @@ may-take v z c (Work x op a b t) s e = tt
 may-take v z c (Fork rel a b t u) s e = tt
 
 -- the three outcomes are apart
-abbrev kind_of : Outcome → ℕ
+abbrev pub kind_of : Outcome → ℕ
 kind_of (At p) = 0
 kind_of Ended = 1
 kind_of (Trapped t p) = 2

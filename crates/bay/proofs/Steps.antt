@@ -1,6 +1,7 @@
 -- What a step does is a case of the rules. Assumes nothing.
 use Rattle.std.proofs.Common.{◌≡◌, ℕ, Bool, true, false, cond, get_or, set, ℤ, pos, IfOk, Some, None, Ok, Err, Option, Result, sym, refl, ap, ◌∙◌, subst, arith}
 use Rattle.scan.proofs.Scans.{err-is-not-ok, ok_same}
+use Rattle.std.proofs.lemmas.Option.{none-some, same_Some}
 use Rattle.std.specs.List.{slice_get}
 use Rattle.machine.specs.Inputs.{allows}
 use Rattle.machine.specs.Runs.{Spot, at}
@@ -22,18 +23,20 @@ use Rattle.bay.specs.Views as Views
 use Rattle.bay.specs.Views.{ToldOf, came, NoTrap}
 use Rattle.bay.specs.declared.Mode.{Mode}
 use Rattle.bay.specs.declared.Mode.TheVariants.{Empty, Held, Running}
-use Rattle.bay.proofs.Rules.{as-case, none-some, some_same, reading-setting}
-use Rattle.bay.proofs.Stepping.{may-take, no-trap}
+use Rattle.bay.proofs.Rules.{as-case, reading-setting}
+use Rattle.bay.proofs.Stepping.{may-take, kind_of, no-trap}
 
 -- the same mode, set again
 same-mode : (m : Mode) (v : View) → v.mode ≡ m → with_mode m v ≡ v
 same-mode m v e i = record { mode = sym e i; variables = v.variables; inputs = v.inputs; settings = v.settings; rows = v.rows; state = v.state }
 
--- the three outcomes are apart
-abbrev kind_of : Outcome → ℕ
-kind_of (At p) = 0
-kind_of Ended = 1
-kind_of (Trapped t p) = 2
+-- what two equal refusals are
+abbrev refusal_or : Refusal → Result ℤ Refusal → Refusal
+refusal_or d (Ok x) = d
+refusal_or d (Err e) = e
+
+refusal-same : {d e : Refusal} → ◌≡◌ {A = Result ℤ Refusal} (Err d) (Err e) → d ≡ e
+refusal-same {d} q = ap (refusal_or d) q
 
 module _ (v : View) (z : ℤ) (runs : v.mode ≡ Running) (kept : settled v.inputs v.settings ≡ true) where
   -- what is taken of input k
@@ -42,32 +45,18 @@ module _ (v : View) (z : ℤ) (runs : v.mode ≡ Running) (kept : settled v.inpu
     where
       by : (b : Bool) → allows i z ≡ b → cond b (Ok z) (Err ReadingOutside) ≡ Err e → (e ≡ ReadingOutside) × (i.kind ≡ Reading) × (allows i z ≡ false)
       by true h p = absurd (err-is-not-ok (sym p))
-      by false h p = (sym (err-same p), is, h)
-        where
-          kept-error : Result ℤ Refusal → Refusal
-          kept-error (Ok x) = e
-          kept-error (Err r) = r
-
-          err-same : ◌≡◌ {A = Result ℤ Refusal} (Err ReadingOutside) (Err e) → ReadingOutside ≡ e
-          err-same r = ap kept-error r
+      by false h p = (sym (refusal-same p), is, h)
   kind-refuses i Setting d e is q = absurd (err-is-not-ok (sym q))
 
   -- a take that is refused
   input-refuses : (k : ℕ) (o : Option Input) (d : ℤ) (e : Refusal) → slice_get v.inputs k ≡ o → from_input o d z ≡ Err e
       → (e ≡ ReadingOutside) × ((i : Input) → IsSetting v k i → ⊥) × ((i : Input) → IsReading v k i → allows i z ≡ false)
-  input-refuses k None d e at q = (sym (error-same q), (λ i s. none-some (sym at ∙ s.0)), (λ i s. absurd (none-some (sym at ∙ s.0))))
-    where
-      kept-error : Result ℤ Refusal → Refusal
-      kept-error (Ok x) = e
-      kept-error (Err r) = r
-
-      error-same : ◌≡◌ {A = Result ℤ Refusal} (Err ReadingOutside) (Err e) → ReadingOutside ≡ e
-      error-same r = ap kept-error r
+  input-refuses k None d e at q = (sym (refusal-same q), (λ i s. none-some _ (sym at ∙ s.0)), (λ i s. absurd (none-some _ (sym at ∙ s.0))))
   input-refuses k (Some n) d e at q =
       let r = kind-refuses n n.kind d e refl q in (
         r.0,
-        (λ i s. reading-setting (sym r.1 ∙ ap (λ (j : Input). j.kind) (some_same (sym at ∙ s.0)) ∙ s.1)),
-        (λ i s. ap (λ (j : Input). allows j z) (sym (some_same (sym at ∙ s.0))) ∙ r.2),
+        (λ i s. reading-setting (sym r.1 ∙ ap (λ (j : Input). j.kind) (same_Some _ _ (sym at ∙ s.0)) ∙ s.1)),
+        (λ i s. ap (λ (j : Input). allows j z) (sym (same_Some _ _ (sym at ∙ s.0))) ∙ r.2),
       )
 
   take-refused : (row : Row) (e : Refusal) → row_now v ≡ row → taken_by v z row ≡ Err e → Happens v (Calls.step z) (Calls.refused e) v
@@ -87,12 +76,12 @@ module _ (v : View) (z : ℤ) (runs : v.mode ≡ Running) (kept : settled v.inpu
     where
       by : (kind : InputKind) → n.kind ≡ kind → from_kind n (get_or v.settings k (pos 0)) z kind ≡ Ok c
           → ((i : Input) → IsSetting v k i → c ≡ get_or v.settings k (pos 0)) × ((i : Input) → IsReading v k i → c ≡ z)
-      by Reading is p = ((λ i s. absurd (reading-setting (sym is ∙ ap (λ (j : Input). j.kind) (some_same (sym at ∙ s.0)) ∙ s.1))), (λ i s. read (allows n z) refl p))
+      by Reading is p = ((λ i s. absurd (reading-setting (sym is ∙ ap (λ (j : Input). j.kind) (same_Some _ _ (sym at ∙ s.0)) ∙ s.1))), (λ i s. read (allows n z) refl p))
         where
           read : (b : Bool) → allows n z ≡ b → cond b (Ok z) (Err ReadingOutside) ≡ Ok c → c ≡ z
           read true h r = sym (ok_same r)
           read false h r = absurd (err-is-not-ok r)
-      by Setting is p = ((λ i s. sym (ok_same p)), (λ i s. absurd (reading-setting (sym s.1 ∙ ap (λ (j : Input). j.kind) (some_same (sym s.0 ∙ at)) ∙ is))))
+      by Setting is p = ((λ i s. sym (ok_same p)), (λ i s. absurd (reading-setting (sym s.1 ∙ ap (λ (j : Input). j.kind) (same_Some _ _ (sym s.0 ∙ at)) ∙ is))))
 
   took : (row : Row) (c : ℤ) → row_now v ≡ row → taken_by v z row ≡ Ok c → Took v z (after_step row v.state c)
   took row c is q = record {

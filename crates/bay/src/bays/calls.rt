@@ -126,6 +126,7 @@ impl Bay {
         }
     }
 
+    // Apart from `step`, whose rule needs what the machine told of the step.
     fn try_step(&mut self, reading: i32) -> Result<Outcome, Refusal>
         ensures value { result ≡ (step_of reading (view self.old)).0 }
         ensures after { view self.new ≡ (step_of reading (view self.old)).1 }

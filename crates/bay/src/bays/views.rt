@@ -38,6 +38,7 @@ impl Bay {
         self.look(variable)
     }
 
+    // Apart from `show`: with the rule beside it the search does not close the equation's cases.
     fn look(&self, variable: usize) -> Result<Shown, Refusal>
         ensures { result ≡ show_of variable (view self.now) }
     {
