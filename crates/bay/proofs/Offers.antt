@@ -1,5 +1,5 @@
 -- A taken sheet makes a bay that keeps to what every bay does. Assumes nothing.
-use Rattle.std.proofs.Common.{◌≡◌, ℕ, suc, Bool, true, false, T, List, [], ◌∷◌, map, ℤ, ◌≤ℤ◌, Ok, Err, Result, sym, refl, ap, ◌∙◌, ap₂}
+use Rattle.std.proofs.Common.{◌≡◌, ℕ, suc, Bool, true, false, T, List, [], ◌∷◌, map, ℤ, ◌≤ℤ◌, Ok, Err, Result, refl, ap}
 use lib.Signed.{le_z, ≤ℤ_refl}
 use Rattle.std.proofs.lemmas.Bool.{and_from}
 use Rattle.machine.specs.Inputs.{allows}
@@ -19,10 +19,9 @@ use Rattle.checker.proofs.Meeting.{meets-ok, meets-err}
 use Rattle.bay.specs.Calls
 use Rattle.bay.specs.Calls.{Happens, offer_taken, offer_refused}
 use Rattle.bay.specs.Calm.{CanTrap, settled}
-use Rattle.bay.specs.Model.{View, by_mode, holding, offer_after, takes}
+use Rattle.bay.specs.Model.{View, holding}
 use Rattle.bay.specs.Views.{offered}
-use Rattle.bay.specs.declared.Mode.{Mode}
-use Rattle.bay.specs.declared.Mode.TheVariants.{Empty, Held, Running}
+use Rattle.bay.specs.declared.Mode.TheVariants.{Running}
 
 le_test : (a b : ℤ) → a ≤ℤ b → le_z a b ≡ true
 le_test a b h = go (le_z a b) h.le
@@ -47,15 +46,6 @@ starts-safe d s safe t = safe.untrapped t.state t.reached t.trap t.traps
 
 -- an offer to a bay that does not run
 module _ (v v' : View) (judge : List ℕ → Result ℕ Fault) (bs : List ℕ) (rests : v.mode ≡ Running → ⊥) where
-  -- at rest the bay is left as the sheet is judged
-  left : (m : Mode) → v.mode ≡ m → v' ≡ takes v (judge bs) (sheet_of bs) → v' ≡ by_mode m (takes v (judge bs) (sheet_of bs)) (takes v (judge bs) (sheet_of bs)) v
-  left Empty e h = h
-  left Held e h = h
-  left Running e h = absurd (rests e)
-
-  pub taken-after : (n : ℕ) (s : Parts) → Meets (Ok n) (judge bs) → sheet_of bs ≡ Ok s → v' ≡ holding s → v' ≡ offer_after judge bs v
-  taken-after n s h read after = left v.mode refl (after ∙ sym (ap₂ (takes v) (meets-ok n (judge bs) h) read))
-
   pub taken-rule : (n : ℕ) (s : Parts) → Meets (Ok n) (judge bs) → sheet_of bs ≡ Ok s → v' ≡ holding s → Happens v (Calls.offer judge bs) (Calls.taken n) v'
   taken-rule n s h read after = offer_taken refl rests (meets-ok n (judge bs) h) read refl after
 

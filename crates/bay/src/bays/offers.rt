@@ -25,7 +25,7 @@ impl Bay {
         ensures after { view self.new ≡ offer_after (verdict_of D.Domain.ops) bytes.now (view self.old) }
         ensures rule { Happens (view self.old) (offering (verdict_of D.Domain.ops) bytes.now) (offered result) (view self.new) }
     {
-        if let Mode::Running = self.mode {
+        if self.mode == Mode::Running {
             return Err(Refusal::Running);
         }
         let sheet = taken::<D>(bytes)?;

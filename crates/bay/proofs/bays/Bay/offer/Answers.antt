@@ -5,7 +5,8 @@ use Rattle.domain.specs.Carrier.{as_dom}
 use Rattle.rules.specs.Tables.{verdict_of}
 use Rattle.checker.proofs.Reading.{readable_of}
 use Rattle.bay.specs.Views.{view}
-use Rattle.bay.proofs.Offers.{starts-settled, starts-safe, taken-after, taken-rule, refused-rule}
+use Rattle.bay.specs.declared.Mode.TheVariants.{Running}
+use Rattle.bay.proofs.Offers.{starts-settled, starts-safe, taken-rule, refused-rule}
 use Rattle.bay.proofs.bays.Bay.offer.Goals as goal
 
 pub hold-requires : goal.hold-requires
@@ -22,19 +23,14 @@ pub returns-in_err-sheet-clause-rule : goal.returns-in_err-sheet-clause-rule
 returns-in_err-sheet-clause-rule g c =
     let v = view c.args.self.now in
     let r = c.in_err-sheet.field-0.0 in
+    let rests : v.mode ≡ Running → ⊥ = search rules in
     let is : c.from_residual.result ≡ Err r = search rules in
-    refused-rule v v (verdict_of g.D.Domain.ops) c.args.bytes.now c.in_default.not-Running r _ is c.in_err-sheet.ensures.value refl
+    refused-rule v v (verdict_of g.D.Domain.ops) c.args.bytes.now rests r _ is c.in_err-sheet.ensures.value refl
 
 pub returns-clause-rule : goal.returns-clause-rule
 returns-clause-rule g c =
     let s = seen c.in_ok-sheet.sheet in
     let bs = c.args.bytes.now in
-    taken-rule (view c.args.self.now) (view c.hold.new.self) (verdict_of g.D.Domain.ops) bs c.in_default.not-Running
-    c.in_ok-sheet.sheet.places s c.in_ok-sheet.ensures.value (accepted bs s c.in_ok-sheet.ensures.formed) c.hold.ensures
-
-pub returns-clause-after : goal.returns-clause-after
-returns-clause-after g c =
-    let s = seen c.in_ok-sheet.sheet in
-    let bs = c.args.bytes.now in
-    taken-after (view c.args.self.now) (view c.hold.new.self) (verdict_of g.D.Domain.ops) bs c.in_default.not-Running
+    let rests : (view c.args.self.now).mode ≡ Running → ⊥ = search rules in
+    taken-rule (view c.args.self.now) (view c.hold.new.self) (verdict_of g.D.Domain.ops) bs rests
     c.in_ok-sheet.sheet.places s c.in_ok-sheet.ensures.value (accepted bs s c.in_ok-sheet.ensures.formed) c.hold.ensures
