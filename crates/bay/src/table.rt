@@ -13,6 +13,7 @@ pub struct Table<T, const N: usize> {
     ghost fits: { count ≤ N },
 }
 
+// By hand, since `Clone` is not derived for a generic struct with a ghost field.
 impl<T: Copy, const N: usize> Clone for Table<T, N> {
     ghost is_clone = { λ x y. y ≡ x };
 
