@@ -1,7 +1,6 @@
 // The inputs of a sheet that has been read, with their settings.
 ghost use Rattle.std.specs.Prelude.{◌≡◌, map};
 ghost use Rattle.sheet.specs.Views.{seen};
-ghost use Rattle.checker.specs.Readable.{Readable};
 ghost use Rattle.rules.specs.Tables.{routine_of};
 ghost use Rattle.bay.specs.Tables.{held_inputs, held_settings};
 
@@ -20,7 +19,6 @@ pub struct HeldInput {
 impl Table<HeldInput, MAX_INPUTS> {
     /// Holds the inputs of a sheet that has been read, each setting at its lo.
     pub(crate) fn fill(&mut self, sheet: &Sheet<'_>)
-        requires { Readable (seen sheet.now) }
         ensures inputs { held_inputs self.new ≡ (routine_of (seen sheet.now)).inputs }
         ensures settings { held_settings self.new ≡ map (λ i. i.lo) (routine_of (seen sheet.now)).inputs }
     {

@@ -1,7 +1,6 @@
 // The rows of a sheet that has been read.
 ghost use Rattle.std.specs.Prelude.{◌≡◌};
 ghost use Rattle.sheet.specs.Views.{seen};
-ghost use Rattle.checker.specs.Readable.{Readable};
 ghost use Rattle.rules.specs.Tables.{routine_of};
 ghost use Rattle.bay.specs.Tables.{held};
 
@@ -13,7 +12,6 @@ use sheet::Sheet;
 impl Table<Row, MAX_PLACES> {
     /// Holds the rows of a sheet that has been read.
     pub(crate) fn fill(&mut self, sheet: &Sheet<'_>)
-        requires { Readable (seen sheet.now) }
         ensures { held self.new ≡ (routine_of (seen sheet.now)).rows }
     {
         self.clear();

@@ -1,6 +1,5 @@
 // A sheet that can be widened: how long it then is, and its bytes.
 ghost use Rattle.std.specs.Prelude.{◌≡◌, ◌+◌, ◌*◌, ◌≤◌, length, Ok, Err, MatchResult};
-ghost use Rattle.sheet.specs.Sheets.{Fits};
 ghost use Rattle.sheet.specs.Views.{seen};
 ghost use Rattle.widening.specs.Answers.{fitting};
 ghost use Rattle.widening.specs.Writes.{cells_with, entry_with, table_with, sheet_with};
@@ -18,7 +17,6 @@ use sheet::{Refusal, Sheet};
 pub(crate) struct Grid<'a> {
     pub(crate) sheet: Sheet<'a>,
     pub(crate) width: usize,
-    ghost fits: { Fits (seen sheet) },
     ghost some: { 1 ≤ width },
     ghost narrow: { width ≤ 64 },
     ghost whole: { length sheet.table.bytes.now ≡ sheet.places * (1 + sheet.variables * width) },

@@ -2,7 +2,6 @@
 ghost use Rattle.std.specs.Prelude.{◌≡◌, true, map};
 ghost use Rattle.machine.specs.Runs.{start};
 ghost use Rattle.sheet.specs.Views.{seen};
-ghost use Rattle.checker.specs.Readable.{Readable};
 ghost use Rattle.rules.specs.Faults.{Meets};
 ghost use Rattle.rules.specs.Tables.{routine_of, verdict_of};
 ghost use Rattle.bay.specs.Calls.{Happens, offer as offering};
@@ -35,7 +34,6 @@ impl Bay {
 
     // Holds the routine of a sheet that has been taken.
     fn hold(&mut self, sheet: &Sheet<'_>)
-        requires readable { Readable (seen sheet.now) }
         requires settled { settled (routine_of (seen sheet.now)).inputs (map (λ i. i.lo) (routine_of (seen sheet.now)).inputs) ≡ true }
         requires safe { CanTrap (routine_of (seen sheet.now)).inputs (routine_of (seen sheet.now)).rows start → ⊥ }
         ensures { view self.new ≡ holding (seen sheet.now) }
