@@ -2,3 +2,4 @@ pub mod Shipped
 pub mod Examples
 pub mod Names
 pub mod Lawful
+pub mod Domains

@@ -8,6 +8,10 @@ ghost use Rattle.catalog.specs.Examples.{Examples};
 ghost use Rattle.catalog.specs.Names.{anythings};
 ghost use Rattle.catalog.specs.Lawful.{shipped-lawful};
 
+mod names;
+
+pub use names::{DomainName, InDomain, UnknownName, UnknownNumber};
+
 use domain::Domain;
 use layers::nonzero::Nonzero;
 use layers::pair::Pair;
