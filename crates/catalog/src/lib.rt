@@ -10,12 +10,11 @@ ghost use Rattle.catalog.specs.Lawful.{shipped-lawful};
 
 mod names;
 
-pub use names::{DomainName, InDomain, UnknownName, UnknownNumber};
-
 use domain::Domain;
 use layers::nonzero::Nonzero;
 use layers::pair::Pair;
 use layers::pile::Domains;
+pub use names::{DomainName, InDomain, UnknownName, UnknownNumber};
 use span::Span;
 use stride::Stride;
 

@@ -1,5 +1,5 @@
 // The domains that ship, by name and by number, and what is done in the domain that a name stands for.
-ghost use Rattle.std.specs.Prelude.{◌≡◌, ◌≢◌, MatchResult, OkIff};
+ghost use Rattle.std.specs.Prelude.{◌≡◌};
 ghost use Rattle.domain.specs.Carrier.{Dom, as_dom};
 ghost use Rattle.catalog.specs.Domains.{name_of, width_of, dom, Named, Numbered};
 
@@ -40,6 +40,21 @@ pub trait InDomain {
 }
 
 impl DomainName {
+    /// All of them, in the order of their numbers.
+    pub const ALL: [DomainName; 11] = [
+        DomainName::Spans,
+        DomainName::Strides,
+        DomainName::NonzeroSpans,
+        DomainName::NonzeroStrides,
+        DomainName::SpansStrides,
+        DomainName::StridesSpans,
+        DomainName::NonzeroSpansStrides,
+        DomainName::NonzeroPair,
+        DomainName::SpansNonzeroStrides,
+        DomainName::Spans8,
+        DomainName::Spans9,
+    ];
+
     /// The name that people write.
     pub fn name(self) -> &'static str
         ensures { result.now ≡ name_of self }
@@ -112,8 +127,8 @@ impl FromStr for DomainName {
 
     ghost from_str_gives = { Named };
 
-    fn from_str(name: &str) -> Result<DomainName, UnknownName> {
-        match name {
+    fn from_str(text: &str) -> Result<DomainName, UnknownName> {
+        match text {
             "spans" => Ok(DomainName::Spans),
             "strides" => Ok(DomainName::Strides),
             "nonzero(spans)" => Ok(DomainName::NonzeroSpans),
@@ -136,20 +151,10 @@ impl TryFrom<u32> for DomainName {
     ghost try_from_gives = { Numbered };
 
     fn try_from(number: u32) -> Result<DomainName, UnknownNumber> {
-        match number {
-            0 => Ok(DomainName::Spans),
-            1 => Ok(DomainName::Strides),
-            2 => Ok(DomainName::NonzeroSpans),
-            3 => Ok(DomainName::NonzeroStrides),
-            4 => Ok(DomainName::SpansStrides),
-            5 => Ok(DomainName::StridesSpans),
-            6 => Ok(DomainName::NonzeroSpansStrides),
-            7 => Ok(DomainName::NonzeroPair),
-            8 => Ok(DomainName::SpansNonzeroStrides),
-            9 => Ok(DomainName::Spans8),
-            10 => Ok(DomainName::Spans9),
-            _ => Err(UnknownNumber),
-        }
+        DomainName::ALL
+            .get(number as usize)
+            .copied()
+            .ok_or(UnknownNumber)
     }
 }
 
