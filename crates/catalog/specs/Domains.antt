@@ -1,6 +1,6 @@
 -- The domains that ship: the names that people write, the numbers, how wide the cells are, and what each is, as a pile over
 -- spans and strides. Assumes nothing.
-use Rattle.std.specs.Prelude.{◌≡◌, ℕ, ◌≢◌, List, [], ◌∷◌, Some, None, Ok, Err, Option, Result, MatchResult, codes}
+use Rattle.std.specs.Prelude.{◌≡◌, ℕ, ◌≢◌, List, [], ◌∷◌, Some, None, Option, Result, MatchResult, codes}
 use Rattle.number.specs.Codes.{nth}
 use Rattle.domain.specs.Carrier.{Dom}
 use Rattle.layers.specs.Piles.{Pile, leaf, pair, nonzero, dom_of}

@@ -7,8 +7,9 @@ use Rattle.rules.specs.Faults.{Meets}
 use Rattle.rules.specs.Safety.{SafeSheet}
 use Rattle.rules.specs.Tables.{verdict_of}
 use Rattle.routine_bay.specs.Fields.{packed_report, verdict_report}
-use Rattle.routine_bay.specs.Named.{dom, SafeIf, Tells}
-use Rattle.routine_bay.specs.declared.named.DomainName.{DomainName}
+use Rattle.catalog.specs.Domains.{dom}
+use Rattle.routine_bay.specs.Named.{SafeIf, Tells}
+use Rattle.catalog.specs.declared.names.DomainName.{DomainName}
 use Rattle.routine_bay.proofs.Bounds.{verdict-small}
 use Rattle.routine_bay.proofs.Packing.{holds_of}
 

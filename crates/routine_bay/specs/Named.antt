@@ -1,15 +1,11 @@
 -- What is answered in the domain that a number names. Assumes nothing.
-use Rattle.std.specs.Prelude.{◌≡◌, ℕ, ◌%◌, List, [], ◌∷◌, Some, None, Ok, Err, Option, Result}
+use Rattle.std.specs.Prelude.{◌≡◌, ℕ, ◌%◌, List, Some, None, Ok, Err, Option, Result}
 use Rattle.sheet.specs.declared.refusals.Refusal.{Refusal}
-use Rattle.domain.specs.Carrier.{Dom}
-use Rattle.layers.specs.Piles.{Pile, leaf, pair, nonzero, dom_of}
-use Rattle.catalog.specs.Shipped.{shipped}
-use Rattle.number.specs.Codes.{nth}
 use Rattle.rules.specs.Faults.{Meets}
 use Rattle.rules.specs.Safety.{SafeSheet}
 use Rattle.rules.specs.Tables.{verdict_of}
-use Rattle.routine_bay.specs.declared.named.DomainName.{DomainName}
-use Rattle.routine_bay.specs.declared.named.DomainName.TheVariants.{Spans, Strides, NonzeroSpans, NonzeroStrides, SpansStrides, StridesSpans, NonzeroSpansStrides, NonzeroPair, SpansNonzeroStrides, Spans8, Spans9}
+use Rattle.catalog.specs.Domains.{dom}
+use Rattle.catalog.specs.declared.names.DomainName.{DomainName}
 use Rattle.routine_bay.specs.Fields.{Holds, verdict_report}
 
 -- what is taken in a domain is a sheet whose routine is safe by its table

@@ -4,8 +4,8 @@ use Rattle.number.specs.Codes.{nth}
 use Rattle.sheet.specs.Bytes.{word_at, integer_at}
 use Rattle.rules.specs.Tables.{verdict_of}
 use Rattle.bay.specs.Calls as Calls
-use Rattle.routine_bay.specs.Named.{named, dom}
-use Rattle.routine_bay.specs.declared.named.DomainName.{DomainName}
+use Rattle.catalog.specs.Domains.{named, dom}
+use Rattle.catalog.specs.declared.names.DomainName.{DomainName}
 use Rattle.routine_bay.specs.declared.records.Kind.{Kind}
 use Rattle.routine_bay.specs.declared.records.Kind.TheVariants.{Offer, Start, Set, Step, Stop, Show}
 use Rattle.routine_bay.specs.declared.records.Record.{Record}

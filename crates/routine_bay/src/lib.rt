@@ -3,9 +3,10 @@
 // docs/LINKING.md has the layout of what they take and answer, c/routine_bay.h declares them for C.
 #![tactic(auto)]
 
-ghost use Rattle.routine_bay.specs.Named.{named, Answered, Tells};
+ghost use Rattle.catalog.specs.Domains.{named};
+ghost use Rattle.routine_bay.specs.Named.{Answered, Tells};
 ghost use Rattle.routine_bay.specs.Plays.{Plays};
-ghost use Rattle.routine_bay.specs.declared.named.DomainName.TheVariants.{Spans};
+ghost use Rattle.catalog.specs.declared.names.DomainName.TheVariants.{Spans};
 
 mod fields;
 mod named;
@@ -13,10 +14,10 @@ mod plays;
 mod records;
 
 use bay::Bay;
-use catalog::Spans as SpansDomain;
+use catalog::{DomainName, Spans as SpansDomain};
 use checker::verdict;
 use fields::verdict_word;
-use named::DomainName;
+use named::judge;
 use plays::perform;
 use records::Record;
 
@@ -26,9 +27,9 @@ use records::Record;
 pub fn routine_bay_verdict(domain: u32, sheet: &[u8]) -> u64
     ensures { Answered (named domain) sheet.now result }
 {
-    match DomainName::from_number(domain) {
-        Some(name) => verdict_word(name.verdict(sheet)),
-        None => 255,
+    match DomainName::try_from(domain) {
+        Ok(name) => verdict_word(judge(name, sheet)),
+        Err(_) => 255,
     }
 }
 

@@ -1,99 +1,66 @@
-// The domains by number.
-ghost use Rattle.std.specs.Prelude.{◌≡◌, Some};
+// What is done in the domain that a number names.
+ghost use Rattle.std.specs.Prelude.{◌≡◌, Some, IfOk};
 ghost use Rattle.rules.specs.Faults.{Meets};
+ghost use Rattle.rules.specs.Safety.{SafeSheet};
 ghost use Rattle.rules.specs.Tables.{verdict_of};
 ghost use Rattle.bay.specs.Calls.{offer as offering};
 ghost use Rattle.bay.specs.Views.{view};
-ghost use Rattle.routine_bay.specs.Named.{named, dom, SafeIf};
+ghost use Rattle.catalog.specs.Domains.{dom};
+ghost use Rattle.routine_bay.specs.Named.{SafeIf};
 ghost use Rattle.routine_bay.specs.Plays.{Performs};
 
 use crate::fields::verdict_word;
 use bay::Bay;
-use catalog;
+use catalog::{DomainName, InDomain};
 use checker::verdict;
 use domain::Domain;
 use sheet::Refusal;
 
-/// The domains that ship, in the order of their numbers.
+// A sheet to be judged.
 #[derive(Clone, Copy)]
-pub enum DomainName {
-    Spans,
-    Strides,
-    NonzeroSpans,
-    NonzeroStrides,
-    SpansStrides,
-    StridesSpans,
-    NonzeroSpansStrides,
-    NonzeroPair,
-    SpansNonzeroStrides,
-    Spans8,
-    Spans9,
+struct Judging<'a> {
+    sheet: &'a [u8],
 }
 
-impl DomainName {
-    /// The domain with this number.
-    pub(crate) fn from_number(number: u32) -> Option<DomainName>
-        ensures { result ≡ named number }
-    {
-        match number {
-            0 => Some(DomainName::Spans),
-            1 => Some(DomainName::Strides),
-            2 => Some(DomainName::NonzeroSpans),
-            3 => Some(DomainName::NonzeroStrides),
-            4 => Some(DomainName::SpansStrides),
-            5 => Some(DomainName::StridesSpans),
-            6 => Some(DomainName::NonzeroSpansStrides),
-            7 => Some(DomainName::NonzeroPair),
-            8 => Some(DomainName::SpansNonzeroStrides),
-            9 => Some(DomainName::Spans8),
-            10 => Some(DomainName::Spans9),
-            _ => None,
-        }
-    }
+impl InDomain for Judging<'_> {
+    type Answer = Result<usize, Refusal>;
 
-    /// The verdict on a sheet in the domain.
-    pub(crate) fn verdict(self, sheet: &[u8]) -> Result<usize, Refusal>
-        ensures value { Meets result (verdict_of (dom self).ops sheet.now) }
-        ensures safe { SafeIf self sheet.now result }
-    {
-        match self {
-            DomainName::Spans => verdict::<catalog::Spans>(sheet),
-            DomainName::Strides => verdict::<catalog::Strides>(sheet),
-            DomainName::NonzeroSpans => verdict::<catalog::NonzeroSpans>(sheet),
-            DomainName::NonzeroStrides => verdict::<catalog::NonzeroStrides>(sheet),
-            DomainName::SpansStrides => verdict::<catalog::SpansStrides>(sheet),
-            DomainName::StridesSpans => verdict::<catalog::StridesSpans>(sheet),
-            DomainName::NonzeroSpansStrides => verdict::<catalog::NonzeroSpansStrides>(sheet),
-            DomainName::NonzeroPair => verdict::<catalog::NonzeroPair>(sheet),
-            DomainName::SpansNonzeroStrides => verdict::<catalog::SpansNonzeroStrides>(sheet),
-            DomainName::Spans8 => verdict::<catalog::Spans8>(sheet),
-            DomainName::Spans9 => verdict::<catalog::Spans9>(sheet),
-        }
-    }
+    ghost gives = { λ d task res _. Meets res (verdict_of d.ops task.sheet.now) × IfOk res (λ _. SafeSheet d task.sheet.now) };
 
-    /// Offers a sheet in the domain.
-    pub(crate) fn offer(self, bay: &mut Bay, sheet: &[u8]) -> u64
-        ensures { Performs (Some (offering (verdict_of (dom self).ops) sheet.now)) (view bay.old) result (view bay.new) }
-    {
-        match self {
-            DomainName::Spans => offer_in::<catalog::Spans>(bay, sheet),
-            DomainName::Strides => offer_in::<catalog::Strides>(bay, sheet),
-            DomainName::NonzeroSpans => offer_in::<catalog::NonzeroSpans>(bay, sheet),
-            DomainName::NonzeroStrides => offer_in::<catalog::NonzeroStrides>(bay, sheet),
-            DomainName::SpansStrides => offer_in::<catalog::SpansStrides>(bay, sheet),
-            DomainName::StridesSpans => offer_in::<catalog::StridesSpans>(bay, sheet),
-            DomainName::NonzeroSpansStrides => offer_in::<catalog::NonzeroSpansStrides>(bay, sheet),
-            DomainName::NonzeroPair => offer_in::<catalog::NonzeroPair>(bay, sheet),
-            DomainName::SpansNonzeroStrides => offer_in::<catalog::SpansNonzeroStrides>(bay, sheet),
-            DomainName::Spans8 => offer_in::<catalog::Spans8>(bay, sheet),
-            DomainName::Spans9 => offer_in::<catalog::Spans9>(bay, sheet),
-        }
+    fn run<D: Domain>(&mut self) -> Result<usize, Refusal> {
+        verdict::<D>(self.sheet)
     }
 }
 
-// Offers a sheet in a domain.
-fn offer_in<D: Domain>(bay: &mut Bay, sheet: &[u8]) -> u64
-    ensures { Performs (Some (offering (verdict_of D.Domain.ops) sheet.now)) (view bay.old) result (view bay.new) }
+// A sheet to be offered to a bay, which is told by a word.
+#[derive(Drop)]
+struct Offering<'a> {
+    bay: &'a mut Bay,
+    sheet: &'a [u8],
+}
+
+impl InDomain for Offering<'_> {
+    type Answer = u64;
+
+    ghost gives = { λ d before word after. Performs (Some (offering (verdict_of d.ops) before.sheet.now)) (view before.bay.now) word (view after.bay.now)
+        × (after.bay.ghost_name ≡ before.bay.ghost_name) };
+
+    fn run<D: Domain>(&mut self) -> u64 {
+        verdict_word(self.bay.offer::<D>(self.sheet))
+    }
+}
+
+/// The verdict on a sheet in the domain.
+pub(crate) fn judge(domain: DomainName, sheet: &[u8]) -> Result<usize, Refusal>
+    ensures value { Meets result (verdict_of (dom domain).ops sheet.now) }
+    ensures safe { SafeIf domain sheet.now result }
 {
-    verdict_word(bay.offer::<D>(sheet))
+    domain.run(&mut Judging { sheet })
+}
+
+/// Offers a sheet in the domain.
+pub(crate) fn offer(domain: DomainName, bay: &mut Bay, sheet: &[u8]) -> u64
+    ensures { Performs (Some (offering (verdict_of (dom domain).ops) sheet.now)) (view bay.old) result (view bay.new) }
+{
+    domain.run(&mut Offering { bay, sheet })
 }

@@ -2,14 +2,15 @@
 ghost use Rattle.std.specs.Prelude.{◌≡◌, Some};
 ghost use Rattle.bay.specs.Calls.{begin, change as changing, step as stepping, stop as stopping, show as showing};
 ghost use Rattle.bay.specs.Views.{view, offered, finished, stepped, told};
-ghost use Rattle.routine_bay.specs.Named.{named};
+ghost use Rattle.catalog.specs.Domains.{named};
 ghost use Rattle.routine_bay.specs.Plays.{Performs, word_of};
 ghost use Rattle.routine_bay.specs.Records.{offer_in, call_of};
 
 use crate::fields::{packed, refusal_word};
-use crate::named::DomainName;
+use crate::named;
 use crate::records::{Kind, Record};
 use bay::{Bay, Shown};
+use catalog::DomainName;
 use machine::Outcome;
 use number::Trap;
 use sheet::Refusal;
@@ -64,9 +65,9 @@ fn show_word(res: Result<Shown, Refusal>) -> u64
 fn offer(bay: &mut Bay, call: Record, sheet: &[u8]) -> u64
     ensures { Performs (offer_in (named call.domain) sheet.now) (view bay.old) result (view bay.new) }
 {
-    match DomainName::from_number(call.domain as u32) {
-        Some(name) => name.offer(bay, sheet),
-        None => 255,
+    match DomainName::try_from(u32::from(call.domain)) {
+        Ok(name) => named::offer(name, bay, sheet),
+        Err(_) => 255,
     }
 }
 

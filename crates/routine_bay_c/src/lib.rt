@@ -3,9 +3,10 @@
 // c/routine_bay.h declares them for C, docs/LINKING.md has the layout of what they take and answer.
 #![tactic(auto)]
 
-ghost use Rattle.routine_bay.specs.Named.{named, Answered, Tells};
+ghost use Rattle.catalog.specs.Domains.{named};
+ghost use Rattle.routine_bay.specs.Named.{Answered, Tells};
 ghost use Rattle.routine_bay.specs.Plays.{Plays};
-ghost use Rattle.routine_bay.specs.declared.named.DomainName.TheVariants.{Spans};
+ghost use Rattle.catalog.specs.declared.names.DomainName.TheVariants.{Spans};
 
 /// The verdict on a sheet in the domain that a number names, as four numbers in one.
 #[unsafe(no_mangle)]

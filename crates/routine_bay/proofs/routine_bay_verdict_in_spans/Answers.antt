@@ -1,6 +1,6 @@
 use Rattle.std.proofs.Common.{ℕ, sym, subst}
 use Rattle.routine_bay.specs.Named.{Tells}
-use Rattle.routine_bay.specs.declared.named.DomainName.TheVariants.{Spans}
+use Rattle.catalog.specs.declared.names.DomainName.TheVariants.{Spans}
 use Rattle.routine_bay.proofs.Naming.{safe-of}
 use Rattle.routine_bay.proofs.Telling.{tells}
 use Rattle.routine_bay.proofs.routine_bay_verdict_in_spans.Goals as goal
