@@ -1,40 +1,16 @@
--- The domains that ship: the names that people write, how wide their cells are, and what is added to a table for a word.
+-- The domains that ship: the cells that hold their values, and what is added to a table for a word.
 -- Assumes nothing.
-use Rattle.std.specs.Prelude.{◌≡◌, ℕ, ◌+◌, Bool, true, false, ◌⊎◌, List, ◌++◌, length, take, codes}
+use Rattle.std.specs.Prelude.{◌≡◌, ℕ, ◌+◌, Bool, true, false, ◌⊎◌, List, ◌++◌, length, take, Ok, Err, Result}
 use Rattle.span.specs.declared.Span.{Span}
 use Rattle.layers.specs.declared.pair.Pair.{Pair}
 use Rattle.notation.specs.Cells.{span_cell, stride_cell, marked_cell, pair_cell}
+use Rattle.catalog.specs.Domains.{width_of}
+use Rattle.notation.specs.declared.cells.CellError.{CellError}
+use Rattle.notation.specs.declared.cells.CellError.TheVariants.{NoValue, Memory}
 use Rattle.notation.specs.declared.cells.Cells.{Cells}
 use Rattle.notation.specs.declared.cells.Cells.TheVariants.{Values, Bytes}
-use Rattle.notation.specs.declared.shipped.DomainName.{DomainName}
-use Rattle.notation.specs.declared.shipped.DomainName.TheVariants.{Spans, Strides, NonzeroSpans, NonzeroStrides, SpansStrides, StridesSpans, NonzeroSpansStrides, NonzeroPair, SpansNonzeroStrides, Spans8, Spans9}
-
-abbrev pub name_of : DomainName → List ℕ
-name_of Spans = codes "spans"
-name_of Strides = codes "strides"
-name_of NonzeroSpans = codes "nonzero(spans)"
-name_of NonzeroStrides = codes "nonzero(strides)"
-name_of SpansStrides = codes "pair(spans,strides)"
-name_of StridesSpans = codes "pair(strides,spans)"
-name_of NonzeroSpansStrides = codes "pair(nonzero(spans),strides)"
-name_of NonzeroPair = codes "nonzero(pair(spans,strides))"
-name_of SpansNonzeroStrides = codes "pair(spans,nonzero(strides))"
-name_of Spans8 = codes "spans8"
-name_of Spans9 = codes "spans9"
-
--- how many bytes a cell has; nine spans would need 72, which is too many
-abbrev pub width_of : DomainName → ℕ
-width_of Spans = 8
-width_of Strides = 6
-width_of NonzeroSpans = 9
-width_of NonzeroStrides = 7
-width_of SpansStrides = 14
-width_of StridesSpans = 14
-width_of NonzeroSpansStrides = 15
-width_of NonzeroPair = 15
-width_of SpansNonzeroStrides = 15
-width_of Spans8 = 64
-width_of Spans9 = 0
+use Rattle.catalog.specs.declared.names.DomainName.{DomainName}
+use Rattle.catalog.specs.declared.names.DomainName.TheVariants.{Spans, Strides, NonzeroSpans, NonzeroStrides, SpansStrides, StridesSpans, NonzeroSpansStrides, NonzeroPair, SpansNonzeroStrides, Spans8, Spans9}
 
 -- for a word that is a value the cell of a value is added behind what there was; else nothing is
 abbrev pub Added : {V : Type 0} → (V → List ℕ) → List ℕ → List ℕ → Bool → Type 0
@@ -45,19 +21,31 @@ Added cell before after false = after ≡ before
 abbrev pub four_cells : Pair (Pair Span Span) (Pair Span Span) → List ℕ
 four_cells = pair_cell (pair_cell span_cell span_cell) (pair_cell span_cell span_cell)
 
--- the same of the domain with a name
+-- the type of the values of a domain, and the cells that hold them
+pub record Writing : Type 1 where
+  pub value : Type 0
+  pub cell : value → List ℕ
+
+abbrev pub as_writing : (V : Type 0) → (V → List ℕ) → Writing
+as_writing V cell = record { value = V; cell = cell }
+
+-- those of the domain with a name
+abbrev pub writing_of : DomainName → Writing
+writing_of Spans = as_writing _ span_cell
+writing_of Strides = as_writing _ stride_cell
+writing_of NonzeroSpans = as_writing _ (marked_cell span_cell)
+writing_of NonzeroStrides = as_writing _ (marked_cell stride_cell)
+writing_of SpansStrides = as_writing _ (pair_cell span_cell stride_cell)
+writing_of StridesSpans = as_writing _ (pair_cell stride_cell span_cell)
+writing_of NonzeroSpansStrides = as_writing _ (pair_cell (marked_cell span_cell) stride_cell)
+writing_of NonzeroPair = as_writing _ (marked_cell (pair_cell span_cell stride_cell))
+writing_of SpansNonzeroStrides = as_writing _ (pair_cell span_cell (marked_cell stride_cell))
+writing_of Spans8 = as_writing _ (pair_cell four_cells four_cells)
+writing_of Spans9 = as_writing _ (pair_cell (pair_cell four_cells four_cells) span_cell)
+
+-- the cell of a value of the domain with a name is added
 abbrev pub AddedIn : DomainName → List ℕ → List ℕ → Bool → Type 0
-AddedIn Spans = Added span_cell
-AddedIn Strides = Added stride_cell
-AddedIn NonzeroSpans = Added (marked_cell span_cell)
-AddedIn NonzeroStrides = Added (marked_cell stride_cell)
-AddedIn SpansStrides = Added (pair_cell span_cell stride_cell)
-AddedIn StridesSpans = Added (pair_cell stride_cell span_cell)
-AddedIn NonzeroSpansStrides = Added (pair_cell (marked_cell span_cell) stride_cell)
-AddedIn NonzeroPair = Added (marked_cell (pair_cell span_cell stride_cell))
-AddedIn SpansNonzeroStrides = Added (pair_cell span_cell (marked_cell stride_cell))
-AddedIn Spans8 = Added (pair_cell four_cells four_cells)
-AddedIn Spans9 = Added (pair_cell (pair_cell four_cells four_cells) span_cell)
+AddedIn d = Added (writing_of d).cell
 
 -- for a word that is so many bytes in hexadecimal these are added; what there was is kept in any case
 abbrev pub BytesAdded : ℕ → List ℕ → List ℕ → Bool → Type 0
@@ -73,3 +61,9 @@ cells_width (Bytes n) = n
 abbrev pub CellAdded : Cells → List ℕ → List ℕ → Bool → Type 0
 CellAdded (Values d) before after took = AddedIn d before after took ⊎ BytesAdded (width_of d) before after took
 CellAdded (Bytes n) before after took = BytesAdded n before after took
+
+-- what was added, as an answer tells it: a cell, none, or anything where memory ran out
+abbrev pub Told : (Bool → Type 0) → Result (Unit {0}) CellError → Type 0
+Told added (Ok u) = added true
+Told added (Err NoValue) = added false
+Told added (Err Memory) = Unit {0}

@@ -1,10 +1,14 @@
 // The cells of a table: values of a domain, or bytes alone.
-ghost use Rattle.std.specs.Prelude.{◌≡◌, IfOk};
-ghost use Rattle.notation.specs.Shipped.{cells_width, CellAdded};
+ghost use Rattle.std.specs.Prelude.{◌≡◌};
+ghost use Rattle.notation.specs.Shipped.{cells_width, CellAdded, Told};
+ghost use Rattle.notation.specs.declared.cells.CellError.TheVariants.{NoValue, Memory};
 
-use crate::hex::push_bytes;
-use crate::shipped::DomainName;
+use crate::digits::push_bytes;
+use crate::shipped::push_value;
+use catalog::DomainName;
 use std::alloc::AllocError;
+use std::error::Error;
+use std::fmt;
 
 /// How the cells of a table are written.
 #[derive(Clone, Copy)]
@@ -13,6 +17,14 @@ pub enum Cells {
     Values(DomainName),
     /// As this many bytes each.
     Bytes(usize),
+}
+
+/// Why no cell is added.
+#[derive(Clone, Copy, PartialEq, Eq, Debug)]
+pub enum CellError {
+    /// The word is no value, and not just as many bytes as a cell has.
+    NoValue,
+    Memory,
 }
 
 impl Cells {
@@ -26,16 +38,35 @@ impl Cells {
         }
     }
 
-    /// Adds the cell that the word is: a value, or `#` and its bytes in hexadecimal. False where it is neither.
-    pub fn push(self, word: &str, out: &mut Vec<u8>) -> Result<bool, AllocError>
-        ensures { IfOk result (λ took. CellAdded self out.old.items out.new.items took) }
+    /// Adds the cell that the word is: a value, or `#` and its bytes in hexadecimal.
+    pub fn push(self, word: &str, out: &mut Vec<u8>) -> Result<(), CellError>
+        ensures { Told (CellAdded self out.old.items out.new.items) result }
     {
         match word.strip_prefix('#') {
             Some(digits) => push_bytes(digits, self.width(), out),
             None => match self {
-                Cells::Values(name) => name.push_value(word, out),
-                Cells::Bytes(_) => Ok(false),
+                Cells::Values(name) => push_value(name, word, out),
+                Cells::Bytes(_) => Err(CellError::NoValue),
             },
         }
     }
 }
+
+impl From<AllocError> for CellError {
+    ghost from_gives = { λ _ e. e ≡ Memory };
+
+    fn from(_e: AllocError) -> CellError {
+        CellError::Memory
+    }
+}
+
+impl fmt::Display for CellError {
+    fn fmt<W: fmt::Write>(&self, f: &mut fmt::Formatter<W>) -> fmt::Result {
+        f.write_str(match self {
+            CellError::NoValue => "no value of the domain, and not the bytes of a cell",
+            CellError::Memory => "there is not enough memory",
+        })
+    }
+}
+
+impl Error for CellError {}

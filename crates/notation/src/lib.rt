@@ -4,13 +4,14 @@
 #![tactic(auto)]
 
 mod cells;
-mod hex;
+mod digits;
 mod numbers;
 mod shipped;
 mod values;
 
-pub use cells::Cells;
-pub use hex::Hexadecimal;
+pub use catalog::DomainName;
+pub use cells::{CellError, Cells};
+pub use digits::Hexadecimal;
 pub use numbers::{integer, number};
-pub use shipped::DomainName;
+pub use shipped::{InNotation, push_value, run_in};
 pub use values::{Notation, Written, parsed};

@@ -49,18 +49,12 @@ impl<D: Notation> fmt::Display for Written<D> {
 
 // The text before the first `&`.
 fn head(text: &str) -> &str {
-    match text.split_once('&') {
-        Some((head, _)) => head,
-        None => text,
-    }
+    text.split_once('&').map_or(text, |(head, _)| head)
 }
 
 // The text behind the first `&`.
 fn tail(text: &str) -> Option<&str> {
-    match text.split_once('&') {
-        Some((_, tail)) => Some(tail),
-        None => None,
-    }
+    text.split_once('&').map(|(_, tail)| tail)
 }
 
 fn span_of(word: &str) -> Option<Span> {
@@ -96,7 +90,7 @@ fn stride_cell(stride: Stride) -> [u8; 6]
 fn mark_byte(marked: bool) -> u8
     ensures { result ≡ (if marked then 1 else 0) }
 {
-    if marked { 1 } else { 0 }
+    u8::from(marked)
 }
 
 impl Notation for Span {
@@ -148,10 +142,9 @@ impl<A: Notation> Notation for Nonzero<A> {
     ghost cell = { marked_cell A.Notation.cell };
 
     fn first_of(text: &str) -> Option<Nonzero<A>> {
-        let (marked, text) = match text.strip_prefix('!') {
-            Some(text) => (true, text),
-            None => (false, text),
-        };
+        let (marked, text) = text
+            .strip_prefix('!')
+            .map_or((false, text), |text| (true, text));
         let inner = A::first_of(text)?;
         Some(Nonzero { marked, inner })
     }
