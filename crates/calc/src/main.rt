@@ -13,12 +13,8 @@
 
 mod commands;
 
-use catalog::{
-    NonzeroPair, NonzeroSpans, NonzeroSpansStrides, NonzeroStrides, Spans, Spans8, Spans9,
-    SpansNonzeroStrides, SpansStrides, Strides, StridesSpans,
-};
 use commands::answered;
-use notation::Notation;
+use notation::{DomainName, InNotation, Notation, run_in};
 
 fn main(rt: HostRuntime) -> anyhow::Result<()> {
     let mut number = 0u64;
@@ -40,28 +36,29 @@ fn understood(rt: &HostRuntime, words: &[&str]) -> anyhow::Result<bool> {
     let [name, words @ ..] = words else {
         return Ok(false);
     };
-    match *name {
-        "spans" => respond::<Spans>(rt, words),
-        "strides" => respond::<Strides>(rt, words),
-        "nonzero(spans)" => respond::<NonzeroSpans>(rt, words),
-        "nonzero(strides)" => respond::<NonzeroStrides>(rt, words),
-        "pair(spans,strides)" => respond::<SpansStrides>(rt, words),
-        "pair(strides,spans)" => respond::<StridesSpans>(rt, words),
-        "pair(nonzero(spans),strides)" => respond::<NonzeroSpansStrides>(rt, words),
-        "nonzero(pair(spans,strides))" => respond::<NonzeroPair>(rt, words),
-        "pair(spans,nonzero(strides))" => respond::<SpansNonzeroStrides>(rt, words),
-        "spans8" => respond::<Spans8>(rt, words),
-        "spans9" => respond::<Spans9>(rt, words),
-        _ => Ok(false),
+    match name.parse::<DomainName>() {
+        Ok(domain) => run_in(domain, &mut Responding { rt, words }),
+        Err(_) => Ok(false),
     }
 }
 
-fn respond<D: Notation>(rt: &HostRuntime, words: &[&str]) -> anyhow::Result<bool> {
-    match answered::<D>(words) {
-        Some(answer) => {
-            println!(rt; "{answer}")?;
-            Ok(true)
+// The words of a command behind the domain's name, whose answer is to be printed.
+#[derive(Clone, Copy)]
+struct Responding<'a> {
+    rt: &'a HostRuntime,
+    words: &'a [&'a str],
+}
+
+impl InNotation for Responding<'_> {
+    type Answer = anyhow::Result<bool>;
+
+    fn run<D: Notation>(&mut self) -> anyhow::Result<bool> {
+        match answered::<D>(self.words) {
+            Some(answer) => {
+                println!(self.rt; "{answer}")?;
+                Ok(true)
+            }
+            None => Ok(false),
         }
-        None => Ok(false),
     }
 }

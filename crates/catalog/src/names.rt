@@ -1,5 +1,5 @@
 // The domains that ship, by name and by number, and what is done in the domain that a name stands for.
-ghost use Rattle.std.specs.Prelude.{◌≡◌};
+ghost use Rattle.std.specs.Prelude.{◌≡◌, ⊤};
 ghost use Rattle.domain.specs.Carrier.{Dom, as_dom};
 ghost use Rattle.catalog.specs.Domains.{name_of, width_of, dom, Named, Numbered};
 
@@ -33,7 +33,7 @@ pub trait InDomain {
     type Answer;
 
     // What it may answer in a domain, and what it leaves of itself.
-    ghost gives: { Dom → Self → Self.Answer → Self → Type 0 };
+    ghost gives: { Dom → Self → Self.Answer → Self → Type 0 } = { λ _ _ _ _. ⊤ };
 
     fn run<D: Domain>(&mut self) -> Self::Answer
         ensures { gives (as_dom D D.Domain.describes D.Domain.ops) self.old result self.new };

@@ -1,9 +1,11 @@
 // The lines that a person writes.
+use catalog::DomainName;
+use notation::{integer, number};
 
 /// A call as it is written.
 #[derive(Clone, Copy)]
 pub enum Command<'a> {
-    Offer { domain: &'a str, hex: &'a str },
+    Offer { domain: DomainName, digits: &'a str },
     Start,
     Stop,
     Set { input: usize, value: i32 },
@@ -21,7 +23,10 @@ pub(crate) fn parsed(line: &str) -> Option<Command<'_>> {
         return None;
     }
     match (verb, first, second) {
-        ("offer", Some(domain), Some(hex)) => Some(Command::Offer { domain, hex }),
+        ("offer", Some(domain), Some(digits)) => Some(Command::Offer {
+            domain: domain.parse().ok()?,
+            digits,
+        }),
         ("start", None, None) => Some(Command::Start),
         ("stop", None, None) => Some(Command::Stop),
         ("set", Some(input), Some(value)) => Some(Command::Set {
@@ -37,21 +42,4 @@ pub(crate) fn parsed(line: &str) -> Option<Command<'_>> {
         }),
         _ => None,
     }
-}
-
-// A decimal integer of 32 bits, with no sign or a minus sign.
-fn integer(word: &str) -> Option<i32> {
-    if word.starts_with('+') {
-        return None;
-    }
-    word.parse::<i32>().ok()
-}
-
-// A decimal number from 0 to 2147483647, with no sign.
-fn number(word: &str) -> Option<usize> {
-    let value = integer(word)?;
-    if value < 0 || word.starts_with('-') {
-        return None;
-    }
-    Some(value as usize)
 }

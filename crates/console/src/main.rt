@@ -64,7 +64,7 @@ fn answer(
     number: usize,
 ) -> anyhow::Result<()> {
     match command {
-        Command::Offer { domain, hex } => match offer(rt.alloc(), bay, domain, hex)? {
+        Command::Offer { domain, digits } => match offer(rt.alloc(), bay, domain, digits)? {
             Some(Ok(places)) => println!(rt; "taken {places}")?,
             Some(Err(refusal)) => refused(rt, refusal, explain)?,
             None => println!(rt; "error {number}")?,

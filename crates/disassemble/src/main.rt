@@ -8,24 +8,17 @@ mod tables;
 ghost use Rattle.sheet.specs.Sheets.{Fits};
 ghost use Rattle.sheet.specs.Views.{seen};
 
-use anyhow::anyhow;
-use catalog::{
-    NonzeroPair, NonzeroSpans, NonzeroSpansStrides, NonzeroStrides, Spans, Spans8, Spans9,
-    SpansNonzeroStrides, SpansStrides, Strides, StridesSpans,
-};
-use notation::DomainName;
+use notation::{DomainName, run_in};
 use sheet::{Refusal, Sheet};
 use std::io::Read;
 use std::{env, io};
-use tables::print_table;
+use tables::Printing;
 
 // One byte more than a sheet may have.
 const LIMIT: u64 = 1_048_577;
 
 fn main(rt: HostRuntime) -> anyhow::Result<()> {
-    let Some(domain) = chosen_domain(&rt)? else {
-        return Err(anyhow!("no domain has that name"));
-    };
+    let domain = chosen_domain(&rt)?;
     let mut bytes = Vec::new(rt.alloc());
     rt.stdin().take(LIMIT).read_to_end(&mut bytes)?;
     match Sheet::read(bytes.as_slice()) {
@@ -33,7 +26,7 @@ fn main(rt: HostRuntime) -> anyhow::Result<()> {
             print_head(&rt, &sheet, bytes.len())?;
             print_inputs(&rt, &sheet)?;
             print_rows(&rt, &sheet)?;
-            print_table_in(&rt, &sheet, domain)?;
+            run_in(domain, &mut Printing { rt: &rt, sheet, domain })?;
         }
         Err(refusal) => print_refusal(&rt, refusal)?,
     }
@@ -41,29 +34,10 @@ fn main(rt: HostRuntime) -> anyhow::Result<()> {
 }
 
 // The domain that the first argument names; spans where there is none.
-fn chosen_domain(rt: &HostRuntime) -> anyhow::Result<Option<DomainName>> {
-    for name in env::args(rt)?.skip(1) {
-        return Ok(DomainName::from_name(name.as_str()));
-    }
-    Ok(Some(DomainName::Spans))
-}
-
-fn print_table_in(rt: &HostRuntime, sheet: &Sheet<'_>, domain: DomainName) -> io::Result<()>
-    requires { Fits (seen sheet.now) }
-{
-    let name = domain.name();
-    match domain {
-        DomainName::Spans => print_table::<Spans>(rt, sheet, name),
-        DomainName::Strides => print_table::<Strides>(rt, sheet, name),
-        DomainName::NonzeroSpans => print_table::<NonzeroSpans>(rt, sheet, name),
-        DomainName::NonzeroStrides => print_table::<NonzeroStrides>(rt, sheet, name),
-        DomainName::SpansStrides => print_table::<SpansStrides>(rt, sheet, name),
-        DomainName::StridesSpans => print_table::<StridesSpans>(rt, sheet, name),
-        DomainName::NonzeroSpansStrides => print_table::<NonzeroSpansStrides>(rt, sheet, name),
-        DomainName::NonzeroPair => print_table::<NonzeroPair>(rt, sheet, name),
-        DomainName::SpansNonzeroStrides => print_table::<SpansNonzeroStrides>(rt, sheet, name),
-        DomainName::Spans8 => print_table::<Spans8>(rt, sheet, name),
-        DomainName::Spans9 => print_table::<Spans9>(rt, sheet, name),
+fn chosen_domain(rt: &HostRuntime) -> anyhow::Result<DomainName> {
+    match env::args(rt)?.nth(1) {
+        Some(name) => Ok(name.as_str().parse()?),
+        None => Ok(DomainName::Spans),
     }
 }
 

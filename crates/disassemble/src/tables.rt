@@ -3,16 +3,33 @@ ghost use Rattle.std.specs.Prelude.{◌<◌};
 ghost use Rattle.sheet.specs.Sheets.{Fits};
 ghost use Rattle.sheet.specs.Views.{seen};
 
-use notation::{Hexadecimal, Notation, Written};
+use notation::{DomainName, Hexadecimal, InNotation, Notation, Written};
 use scan::piece;
 use sheet::Sheet;
 use std::io;
 
-/// The table with its cells as values of `D`, if that is their width, else as bytes alone.
-pub(crate) fn print_table<D: Notation>(
+/// A sheet whose table is to be printed, in the domain with that name.
+#[derive(Clone, Copy)]
+pub struct Printing<'a> {
+    pub rt: &'a HostRuntime,
+    pub sheet: Sheet<'a>,
+    pub domain: DomainName,
+    ghost fits: { Fits (seen sheet) },
+}
+
+impl InNotation for Printing<'_> {
+    type Answer = io::Result<()>;
+
+    fn run<D: Notation>(&mut self) -> io::Result<()> {
+        print_table::<D>(self.rt, &self.sheet, self.domain)
+    }
+}
+
+// The table with its cells as values of `D`, if that is their width, else as bytes alone.
+fn print_table<D: Notation>(
     rt: &HostRuntime,
     sheet: &Sheet<'_>,
-    name: &str,
+    domain: DomainName,
 ) -> io::Result<()>
     requires { Fits (seen sheet.now) }
 {
@@ -23,7 +40,7 @@ pub(crate) fn print_table<D: Notation>(
         );
     };
     if width == D::width() {
-        println!(rt; "table: {name}")?;
+        println!(rt; "table: {domain}")?;
     } else {
         println!(rt; "table: {width} bytes a cell")?;
     }

@@ -1,5 +1,5 @@
 // What is done with values that can be written, in the domain that a name stands for.
-ghost use Rattle.std.specs.Prelude.{◌≡◌};
+ghost use Rattle.std.specs.Prelude.{◌≡◌, ⊤};
 ghost use Rattle.notation.specs.Shipped.{Added, AddedIn, Told, Writing, as_writing, writing_of};
 
 use crate::cells::CellError;
@@ -15,7 +15,7 @@ pub trait InNotation {
     type Answer;
 
     // What it may answer in a domain, and what it leaves of itself.
-    ghost gives: { Writing → Self → Self.Answer → Self → Type 0 };
+    ghost gives: { Writing → Self → Self.Answer → Self → Type 0 } = { λ _ _ _ _. ⊤ };
 
     fn run<D: Notation>(&mut self) -> Self::Answer
         ensures { gives (as_writing D D.Notation.cell) self.old result self.new };

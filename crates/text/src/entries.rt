@@ -1,13 +1,13 @@
 // The table as text: how its cells are written, and its entries.
 use lines::Reason;
-use notation::{Cells, DomainName, number};
+use notation::{CellError, Cells, DomainName, number};
 use std::iter::repeat_n;
 
 /// How the cells are written, by the words behind `table:`.
 pub(crate) fn cells_of(words: &[&str]) -> Result<Cells, Reason> {
     match words {
         [name] => {
-            let name = DomainName::from_name(name).ok_or(Reason::DomainUnknown)?;
+            let name: DomainName = name.parse().ok().ok_or(Reason::DomainUnknown)?;
             if name.width() == 0 {
                 return Err(Reason::DomainCellless);
             }
@@ -61,9 +61,10 @@ fn push_cells(
         return Err(Reason::CellCount { count: variables });
     }
     for (variable, word) in words.iter().enumerate() {
-        if !cells.push(word, out)? {
-            return Err(Reason::Cell { variable });
-        }
+        cells.push(word, out).map_err(|e| match e {
+            CellError::NoValue => Reason::Cell { variable },
+            CellError::Memory => Reason::Memory,
+        })?;
     }
     Ok(())
 }

@@ -12,7 +12,8 @@
 mod judging;
 
 use anyhow::{Context, anyhow};
-use judging::judged;
+use catalog::DomainName;
+use judging::Judging;
 use sheet::{Refusal, Sheet};
 use std::alloc::{AllocError, Global};
 use std::io;
@@ -108,10 +109,10 @@ fn answer(rt: &HostRuntime, edits: &str, sheet: &[u8]) -> anyhow::Result<()> {
 
 fn judge(rt: &HostRuntime, name: &str, domain: &str, sheet: &[u8]) -> anyhow::Result<()> {
     print!(rt; "{name}: ")?;
-    match judged(domain, sheet) {
-        Some(Ok(places)) => println!(rt; "taken {places}")?,
-        Some(Err(refusal)) => refused(rt, refusal)?,
-        None => return Err(anyhow!("an unknown domain")),
+    let domain: DomainName = domain.parse().ok().context("an unknown domain")?;
+    match domain.run(&mut Judging { sheet }) {
+        Ok(places) => println!(rt; "taken {places}")?,
+        Err(refusal) => refused(rt, refusal)?,
     }
     Ok(())
 }
