@@ -26,7 +26,14 @@ fn main(rt: HostRuntime) -> anyhow::Result<()> {
             print_head(&rt, &sheet, bytes.len())?;
             print_inputs(&rt, &sheet)?;
             print_rows(&rt, &sheet)?;
-            run_in(domain, &mut Printing { rt: &rt, sheet, domain })?;
+            run_in(
+                domain,
+                &mut Printing {
+                    rt: &rt,
+                    sheet,
+                    domain,
+                },
+            )?;
         }
         Err(refusal) => print_refusal(&rt, refusal)?,
     }
