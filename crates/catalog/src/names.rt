@@ -128,6 +128,7 @@ impl FromStr for DomainName {
     ghost from_str_gives = { Named };
 
     fn from_str(text: &str) -> Result<DomainName, UnknownName> {
+        // No `ALL.into_iter().find(..)`: it got no proof that where it finds nothing no domain has the name.
         match text {
             "spans" => Ok(DomainName::Spans),
             "strides" => Ok(DomainName::Strides),
