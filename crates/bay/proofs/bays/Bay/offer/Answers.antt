@@ -3,7 +3,6 @@ use Rattle.sheet.specs.Views.{seen}
 use Rattle.sheet.proofs.Accepted.{accepted}
 use Rattle.domain.specs.Carrier.{as_dom}
 use Rattle.rules.specs.Tables.{verdict_of}
-use Rattle.checker.proofs.Reading.{readable_of}
 use Rattle.bay.specs.Views.{view}
 use Rattle.bay.specs.declared.Mode.TheVariants.{Running}
 use Rattle.bay.proofs.Offers.{starts-settled, starts-safe, taken-rule, refused-rule}
@@ -14,7 +13,6 @@ hold-requires g c =
     let s = seen c.in_ok-sheet.sheet in
     let bs = c.args.bytes.now in
     record {
-      readable = readable_of bs s c.in_ok-sheet.ensures.formed;
       settled = starts-settled bs s c.in_ok-sheet.ensures.formed;
       safe = starts-safe (as_dom _ g.D.Domain.describes g.D.Domain.ops) s c.in_ok-sheet.ensures.safe;
     }

@@ -20,7 +20,7 @@ push-requires c =
       length-map (held c.loop-number.self) (λ (h : HeldInput). h.input),
       length-map-range_with_len (λ j. input_in (chunk 9 j c.args.sheet.now.inputs.bytes.now)) 0 i,
       c.loop-number-test.true,
-      c.requires.fits.input_count,
+      c.args.sheet.now.sound.fits.input_count,
     )
 
 pub loop-number-preserved : goal.loop-number-preserved

@@ -15,7 +15,7 @@ push-requires c =
       ap length c.loop-place.invariant,
       length-map-range_with_len (λ j. row_in (chunk 12 j c.args.sheet.now.rows.bytes.now)) 0 i,
       c.loop-place-test.true,
-      c.requires.fits.places,
+      c.args.sheet.now.sound.fits.places,
     )
 
 pub loop-place-preserved : goal.loop-place-preserved
