@@ -14,9 +14,12 @@ use Rattle.sheet.specs.Parts.{Region, Parts, end_of, offset_of, length_of, size_
 use Rattle.sheet.specs.Refusals.{numbers, report}
 use Rattle.sheet.specs.Rows.{limits, row_byte, row_at, rows_right}
 use Rattle.sheet.specs.Sheets.{Fits, sheet_of}
+use Rattle.sheet.specs.PartNames.{part_number}
+use Rattle.sheet.specs.declared.parts.PartName.{PartName}
+use Rattle.sheet.specs.declared.parts.PartName.TheVariants.{Inputs, Rows, Table}
 use Rattle.sheet.specs.declared.refusals.Refusal.{Refusal}
-use Rattle.sheet.specs.declared.refusals.Refusal.TheVariants.{SheetSize, HeadByte, PartExtent, PartSize, InputRecord, RowByte, NoWidth, TableSize, EntryFlag, CellUnreadable, StartUncovered, ZeroWarning, RangeWarning, EntryAbsent}
-use Rattle.sheet.proofs.Layouts.{laid_of}
+use Rattle.sheet.specs.declared.refusals.Refusal.TheVariants.{SheetSize, HeadByte, PartExtent, PartSize, InputRecord, RowByte, NoWidth, TableSize, EntryFlag, CellUnreadable, StartAbsent, StartUncovered, ZeroWarning, RangeWarning, EntryAbsent}
+use Rattle.sheet.proofs.Laying.{laid_of}
 use Rattle.domain.specs.Model.{Ops}
 use Rattle.rules.specs.Checks.{Routine, start_right, unwarned, covered, lands, way_right, place_right, places_right}
 use Rattle.rules.specs.Claims.{Claims}
@@ -69,24 +72,29 @@ here : (p : ℕ) → p < 256 → Under p 0 0
 here p h = (h, omega arith, omega arith)
 
 module _ (bs : List ℕ) where
-  extent-few : (i : ℕ) → i < 3 → (before : ℕ) → Each Few (part_of bs i before)
-  extent-few i h before =
-      each-then Few (unless (leb before (offset_of bs i) && leb (offset_of bs i + length_of bs i) (length bs)) (PartExtent i)) _
-      (each-unless Few _ (PartExtent i) (few 3 i 0 0 (omega arith) (here i (omega (arith, h))))) (λ _ _. tt)
+  few-parts : (n : ℕ) → n < 24 → (p : PartName) → Small (report n (part_number p) 0 0)
+  few-parts n h Inputs = few n 0 0 0 h none
+  few-parts n h Rows = few n 1 0 0 h (here 1 (omega arith))
+  few-parts n h Table = few n 2 0 0 h (here 2 (omega arith))
+
+  extent-few : (p : PartName) (before : ℕ) → Each Few (part_of bs p before)
+  extent-few p before =
+      each-then Few (unless (leb before (offset_of bs p) && leb (offset_of bs p + length_of bs p) (length bs)) (PartExtent p)) _
+      (each-unless Few _ (PartExtent p) (few-parts 3 (omega arith) p)) (λ _ _. tt)
 
   sizes-few : (k : ℕ) (i r : Region) → Each Few (sizes_right k i r)
   sizes-few k i r =
-      each-then Few (unless (eqb (length i.bytes) (9 * k)) (PartSize 0)) _
-      (each-unless Few _ (PartSize 0) (few 4 0 0 0 (omega arith) none))
-      (λ _ _. each-unless Few _ (PartSize 1) (few 4 1 0 0 (omega arith) (here 1 (omega arith))))
+      each-then Few (unless (eqb (length i.bytes) (9 * k)) (PartSize Inputs)) _
+      (each-unless Few _ (PartSize Inputs) (few 4 0 0 0 (omega arith) none))
+      (λ _ _. each-unless Few _ (PartSize Rows) (few 4 1 0 0 (omega arith) (here 1 (omega arith))))
 
   parts-few : Each Few (parts_of bs)
   parts-few =
       each-then Few (size_right bs) _ (each-unless Few _ SheetSize (few 1 0 0 0 (omega arith) none)) (λ _ _.
       each-then Few (head_right bs) _ (each-up Few (head_byte bs) 4 (λ i h. each-unless Few _ (HeadByte i) (few 2 i 0 0 (omega arith) (here i (omega (arith, h)))))) (λ _ _.
-      each-then Few (part_of bs 0 28) _ (extent-few 0 (omega arith) 28) (λ inputs _.
-      each-then Few (part_of bs 1 (end_of inputs)) _ (extent-few 1 (omega arith) (end_of inputs)) (λ rows _.
-      each-then Few (part_of bs 2 (end_of rows)) _ (extent-few 2 (omega arith) (end_of rows)) (λ table _.
+      each-then Few (part_of bs Inputs 28) _ (extent-few Inputs 28) (λ inputs _.
+      each-then Few (part_of bs Rows (end_of inputs)) _ (extent-few Rows (end_of inputs)) (λ rows _.
+      each-then Few (part_of bs Table (end_of rows)) _ (extent-few Table (end_of rows)) (λ table _.
       each-then Few (sizes_right (get_or bs 2 0) inputs rows) _ (sizes-few (get_or bs 2 0) inputs rows) (λ _ _. tt))))))
 
 module _ (s : Parts) (fits : Fits s) where
@@ -130,8 +138,8 @@ ways-two inputs (Fork rel a b t u) = omega arith
 module _ {V : Type 0} (o : Ops V) (r : Routine) (claims : Claims V) (some : r.variables ≤ 16) where
   start-slight : Each Slight (start_right o r claims)
   start-slight =
-      each-then Slight (unless (claims.present 0) (fixed (StartUncovered 16))) _
-      (each-unless Slight (claims.present 0) (fixed (StartUncovered 16)) (few 11 0 0 16 (omega arith) (omega arith, omega arith, omega arith)))
+      each-then Slight (unless (claims.present 0) (fixed StartAbsent)) _
+      (each-unless Slight (claims.present 0) (fixed StartAbsent) (few 11 0 0 16 (omega arith) (omega arith, omega arith, omega arith)))
       (λ _ _. each-up Slight (λ x. unless (o.covers (claims.cell 0 x) (o.value (pos 0) (pos 0))) (fixed (StartUncovered x))) r.variables
       (λ x h. each-unless Slight _ (fixed (StartUncovered x)) (few 11 0 0 x (omega arith) (omega arith, omega arith, omega (arith, h, some)))))
 

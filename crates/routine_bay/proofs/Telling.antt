@@ -2,7 +2,7 @@
 use Rattle.std.proofs.Common.{◌≡◌, ℕ, List, Ok, Err, Result, sym, ◌∙◌, arith}
 use Rattle.sheet.specs.Refusals.{numbers}
 use Rattle.sheet.specs.declared.refusals.Refusal.{Refusal}
-use Rattle.sheet.specs.declared.refusals.Refusal.TheVariants.{SheetSize, HeadByte, PartExtent, PartSize, InputRecord, RowByte, NoWidth, TableSize, EntryFlag, CellUnreadable, StartUncovered, ZeroWarning, RangeWarning, EntryAbsent, NotCovered, NoSetting, SettingOutside, ReadingOutside, NoVariable, NothingHeld, Running, NotRunning}
+use Rattle.sheet.specs.declared.refusals.Refusal.TheVariants.{SheetSize, HeadByte, PartExtent, PartSize, InputRecord, RowByte, NoWidth, TableSize, EntryFlag, CellUnreadable, StartAbsent, StartUncovered, ZeroWarning, RangeWarning, EntryAbsent, NotCovered, NoSetting, SettingOutside, ReadingOutside, NoVariable, NothingHeld, Running, NotRunning}
 use Rattle.rules.specs.Faults.{Meets}
 use Rattle.rules.specs.Safety.{SafeSheet}
 use Rattle.rules.specs.Tables.{verdict_of}
@@ -25,6 +25,7 @@ numbered NoWidth h = omega arith
 numbered TableSize h = omega arith
 numbered (EntryFlag place) h = omega arith
 numbered (CellUnreadable place variable) h = omega arith
+numbered StartAbsent h = omega arith
 numbered (StartUncovered variable) h = omega arith
 numbered (ZeroWarning place) h = omega arith
 numbered (RangeWarning place) h = omega arith
