@@ -11,6 +11,7 @@ mod bays;
 mod inputs;
 mod rows;
 mod table;
+mod words;
 
 pub use bays::Bay;
 

@@ -8,9 +8,9 @@ use std::fmt;
 #[derive(Drop)]
 pub enum Answer<D> {
     /// A value, the zero warning and the range warning.
-    Value(D, bool, bool),
-    /// There is no value.
-    Nothing,
+    Worked(D, bool, bool),
+    /// A value, if there is one.
+    Value(Option<D>),
     Covers(bool),
     Number(usize),
 }
@@ -18,7 +18,7 @@ pub enum Answer<D> {
 impl<D: Notation> fmt::Display for Answer<D> {
     fn fmt<W: fmt::Write>(&self, f: &mut fmt::Formatter<W>) -> fmt::Result {
         match self {
-            Answer::Value(value, zero, range) => {
+            Answer::Worked(value, zero, range) => {
                 value.write(f)?;
                 if *zero {
                     write!(f, " zero")?;
@@ -28,18 +28,12 @@ impl<D: Notation> fmt::Display for Answer<D> {
                 }
                 Ok(())
             }
-            Answer::Nothing => write!(f, "none"),
+            Answer::Value(Some(value)) => value.write(f),
+            Answer::Value(None) => write!(f, "none"),
             Answer::Covers(true) => write!(f, "yes"),
             Answer::Covers(false) => write!(f, "no"),
             Answer::Number(number) => write!(f, "{number}"),
         }
-    }
-}
-
-fn quiet<D: Copy>(value: Option<D>) -> Answer<D> {
-    match value {
-        Some(value) => Answer::Value(value, false, false),
-        None => Answer::Nothing,
     }
 }
 
@@ -48,14 +42,14 @@ fn work<D: Notation>(words: &[&str]) -> Option<Answer<D>> {
         return None;
     };
     let (value, zero, range) = D::work(sign.parse::<Op>().ok()?, parsed::<D>(a)?, parsed::<D>(b)?);
-    Some(Answer::Value(value, zero, range))
+    Some(Answer::Worked(value, zero, range))
 }
 
 fn narrow<D: Notation>(words: &[&str]) -> Option<Answer<D>> {
     let [a, sign, b] = words else {
         return None;
     };
-    Some(quiet(D::narrow(
+    Some(Answer::Value(D::narrow(
         parsed::<D>(a)?,
         sign.parse::<Relation>().ok()?,
         parsed::<D>(b)?,
@@ -73,7 +67,7 @@ fn value<D: Notation>(words: &[&str]) -> Option<Answer<D>> {
     let [lo, hi] = words else {
         return None;
     };
-    Some(quiet(Some(D::value(lo.parse::<i32>().ok()?, hi.parse::<i32>().ok()?))))
+    Some(Answer::Value(Some(D::value(lo.parse::<i32>().ok()?, hi.parse::<i32>().ok()?))))
 }
 
 // The words are the bytes of a cell, at most 64.
@@ -82,7 +76,7 @@ fn read<D: Notation>(words: &[&str]) -> Option<Answer<D>> {
     for (byte, word) in cell.iter_mut().zip(words.iter()) {
         *byte = word.parse::<u8>().ok()?;
     }
-    Some(quiet(D::read(cell.get(0..words.len())?)))
+    Some(Answer::Value(D::read(cell.get(0..words.len())?)))
 }
 
 fn blank<D: Notation>(words: &[&str]) -> Option<Answer<D>> {
@@ -103,7 +97,7 @@ pub(crate) fn answered<D: Notation>(words: &[&str]) -> Option<Answer<D>> {
         "narrow" => narrow::<D>(words),
         "covers" => covers::<D>(words),
         "value" => value::<D>(words),
-        "anything" => Some(quiet(Some(D::anything()))),
+        "anything" => Some(Answer::Value(Some(D::anything()))),
         "read" => read::<D>(words),
         "blank" => blank::<D>(words),
         "width" => Some(Answer::Number(D::width())),

@@ -9,20 +9,18 @@
 // `error LINE`, with the line's number from 1.
 #![tactic(auto)]
 
-use bay::{Bay, Shown, stands};
+use bay::{Bay, stands};
 use catalog::Shipped;
 use dawn::morning_runs;
-use machine::Outcome;
-use number::Trap;
 use sheet::Refusal;
-use std::env;
+use std::{env, fmt};
 use std::io::{BufRead, BufReader};
 
 mod commands;
 mod offers;
 
 use commands::{Command, parsed};
-use offers::offer;
+use offers::{Offering, bytes_of};
 
 fn main(rt: HostRuntime) -> anyhow::Result<()> {
     stands::<Shipped>();
@@ -64,60 +62,46 @@ fn answer(
     number: usize,
 ) -> anyhow::Result<()> {
     match command {
-        Command::Offer { domain, digits } => match offer(rt.alloc(), bay, domain, digits)? {
-            Some(Ok(places)) => println!(rt; "taken {places}")?,
-            Some(Err(refusal)) => refused(rt, refusal, explain)?,
-            None => println!(rt; "error {number}")?,
+        Command::Offer { domain, digits } => match bytes_of(rt.alloc(), digits)? {
+            Some(bytes) => {
+                let sheet = bytes.as_slice();
+                let res = domain.run(&mut Offering { bay, sheet });
+                told(rt, res.map(|places| Taken(places)), explain)
+            }
+            None => Ok(println!(rt; "error {number}")?),
         },
-        Command::Start => finished(rt, bay.start(), explain)?,
-        Command::Stop => finished(rt, bay.stop(), explain)?,
-        Command::Set { input, value } => finished(rt, bay.set(input, value), explain)?,
-        Command::Step { reading } => stepped(rt, bay.step(reading), explain)?,
-        Command::Show { variable } => shown(rt, bay.show(variable), explain)?,
+        Command::Start => told(rt, bay.start().map(|()| "done"), explain),
+        Command::Stop => told(rt, bay.stop().map(|()| "done"), explain),
+        Command::Set { input, value } => told(rt, bay.set(input, value).map(|()| "done"), explain),
+        Command::Step { reading } => told(rt, bay.step(reading), explain),
+        Command::Show { variable } => told(rt, bay.show(variable), explain),
     }
-    Ok(())
 }
 
-fn refused(rt: &HostRuntime, refusal: Refusal, explain: bool) -> anyhow::Result<()> {
-    let report = refusal.report();
-    println!(rt;
-        "refused {} {} {} {}",
-        report.number, report.place, report.way, report.variable
-    )?;
-    if explain {
-        println!(rt; "  {refusal}")?;
+// The number of places of a sheet that is taken.
+#[derive(Clone, Copy)]
+struct Taken(usize);
+
+impl fmt::Display for Taken {
+    fn fmt<W: fmt::Write>(&self, f: &mut fmt::Formatter<W>) -> fmt::Result {
+        write!(f, "taken {}", self.0)
     }
-    Ok(())
 }
 
-fn finished(rt: &HostRuntime, res: Result<(), Refusal>, explain: bool) -> anyhow::Result<()> {
+// Prints an answer, or the refusal.
+fn told<T: fmt::Display + Drop>(
+    rt: &HostRuntime,
+    res: Result<T, Refusal>,
+    explain: bool,
+) -> anyhow::Result<()> {
     match res {
-        Ok(()) => println!(rt; "done")?,
-        Err(refusal) => refused(rt, refusal, explain)?,
-    }
-    Ok(())
-}
-
-fn stepped(rt: &HostRuntime, res: Result<Outcome, Refusal>, explain: bool) -> anyhow::Result<()> {
-    match res {
-        Ok(Outcome::At { place }) => println!(rt; "at {place}")?,
-        Ok(Outcome::Ended) => println!(rt; "ended")?,
-        Ok(Outcome::Trapped { trap, place }) => match trap {
-            Trap::Zero => println!(rt; "trap zero {place}")?,
-            Trap::Range => println!(rt; "trap range {place}")?,
-        },
-        Err(refusal) => refused(rt, refusal, explain)?,
-    }
-    Ok(())
-}
-
-fn shown(rt: &HostRuntime, res: Result<Shown, Refusal>, explain: bool) -> anyhow::Result<()> {
-    match res {
-        Ok(shown) => {
-            let mode = if shown.running { "running" } else { "held" };
-            println!(rt; "{mode} {} {}", shown.place, shown.value)?;
+        Ok(answer) => println!(rt; "{answer}")?,
+        Err(refusal) => {
+            println!(rt; "refused {}", refusal.report())?;
+            if explain {
+                println!(rt; "  {refusal}")?;
+            }
         }
-        Err(refusal) => refused(rt, refusal, explain)?,
     }
     Ok(())
 }

@@ -1,16 +1,16 @@
 // Offering a sheet that is written in hexadecimal.
 use bay::Bay;
-use catalog::{DomainName, InDomain};
+use catalog::InDomain;
 use domain::Domain;
 use hex::FromHexError;
 use sheet::Refusal;
-use std::alloc::{AllocError, Global};
+use std::alloc::Global;
 
-// A sheet to be offered to a bay.
+/// A sheet to be offered to a bay.
 #[derive(Drop)]
-struct Offering<'a> {
-    bay: &'a mut Bay,
-    sheet: &'a [u8],
+pub struct Offering<'a> {
+    pub bay: &'a mut Bay,
+    pub sheet: &'a [u8],
 }
 
 impl InDomain for Offering<'_> {
@@ -21,19 +21,11 @@ impl InDomain for Offering<'_> {
     }
 }
 
-/// Offers the sheet in the domain; none where the text is no row of bytes.
-pub(crate) fn offer(
-    heap: Global,
-    bay: &mut Bay,
-    domain: DomainName,
-    digits: &str,
-) -> Result<Option<Result<usize, Refusal>>, AllocError> {
+/// The bytes of a row of hexadecimal digits; none where the text is no such row.
+pub(crate) fn bytes_of(heap: Global, digits: &str) -> Result<Option<Vec<u8>>, FromHexError> {
     match hex::decode(heap, digits) {
-        Ok(sheet) => {
-            let sheet = sheet.as_slice();
-            Ok(Some(domain.run(&mut Offering { bay, sheet })))
-        }
-        Err(FromHexError::OutOfMemory) => Err(AllocError),
+        Ok(bytes) => Ok(Some(bytes)),
+        Err(FromHexError::OutOfMemory) => Err(FromHexError::OutOfMemory),
         Err(_) => Ok(None),
     }
 }

@@ -5,11 +5,8 @@
 
 mod tables;
 
-ghost use Rattle.sheet.specs.Sheets.{Fits};
-ghost use Rattle.sheet.specs.Views.{seen};
-
 use notation::{DomainName, run_in};
-use sheet::{Refusal, Sheet};
+use sheet::Sheet;
 use std::io::Read;
 use std::{env, io};
 use tables::Printing;
@@ -35,7 +32,10 @@ fn main(rt: HostRuntime) -> anyhow::Result<()> {
                 },
             )?;
         }
-        Err(refusal) => print_refusal(&rt, refusal)?,
+        Err(refusal) => {
+            println!(rt; "refused {}", refusal.report())?;
+            println!(rt; "{refusal}")?;
+        }
     }
     Ok(())
 }
@@ -46,15 +46,6 @@ fn chosen_domain(rt: &HostRuntime) -> anyhow::Result<DomainName> {
         Some(name) => Ok(name.as_str().parse()?),
         None => Ok(DomainName::Spans),
     }
-}
-
-fn print_refusal(rt: &HostRuntime, refusal: Refusal) -> io::Result<()> {
-    let report = refusal.report();
-    println!(rt;
-        "refused {} {} {} {}",
-        report.number, report.place, report.way, report.variable
-    )?;
-    println!(rt; "{refusal}")
 }
 
 // What only the bytes have: how many there are, where the parts begin, and whether there are others.
@@ -81,25 +72,17 @@ fn has_gaps(sheet: &Sheet<'_>, size: usize) -> bool {
 }
 
 fn print_inputs(rt: &HostRuntime, sheet: &Sheet<'_>) -> io::Result<()>
-    requires { Fits (seen sheet.now) }
 {
     for number in 0..sheet.input_count {
-        match sheet.input(number) {
-            Ok(input) => println!(rt; "input {number}: {input}")?,
-            Err(refusal) => print_refusal(rt, refusal)?,
-        }
+        println!(rt; "input {number}: {}", sheet.input(number))?;
     }
     Ok(())
 }
 
 fn print_rows(rt: &HostRuntime, sheet: &Sheet<'_>) -> io::Result<()>
-    requires { Fits (seen sheet.now) }
 {
     for place in 0..sheet.places {
-        match sheet.row(place) {
-            Ok(row) => println!(rt; "{place}: {row}")?,
-            Err(refusal) => print_refusal(rt, refusal)?,
-        }
+        println!(rt; "{place}: {}", sheet.row(place))?;
     }
     Ok(())
 }

@@ -1,10 +1,7 @@
 // The table of a sheet as text: cells as values of a domain, or as bytes where they are no such values.
 ghost use Rattle.std.specs.Prelude.{◌<◌};
-ghost use Rattle.sheet.specs.Sheets.{Fits};
-ghost use Rattle.sheet.specs.Views.{seen};
 
 use notation::{DomainName, Hexadecimal, InNotation, Notation, Written};
-use scan::piece;
 use sheet::Sheet;
 use std::io;
 
@@ -14,7 +11,6 @@ pub struct Printing<'a> {
     pub rt: &'a HostRuntime,
     pub sheet: Sheet<'a>,
     pub domain: DomainName,
-    ghost fits: { Fits (seen sheet) },
 }
 
 impl InNotation for Printing<'_> {
@@ -31,7 +27,6 @@ fn print_table<D: Notation>(
     sheet: &Sheet<'_>,
     domain: DomainName,
 ) -> io::Result<()>
-    requires { Fits (seen sheet.now) }
 {
     let Some(width) = sheet.cell_width() else {
         return println!(rt;
@@ -44,13 +39,8 @@ fn print_table<D: Notation>(
     } else {
         println!(rt; "table: {width} bytes a cell")?;
     }
-    for place in 0..sheet.places {
-        let entry = piece(
-            sheet.table.bytes,
-            1 + sheet.variables * width,
-            sheet.places,
-            place,
-        );
+    let entries = sheet.table.bytes.chunks(1 + sheet.variables * width);
+    for (place, entry) in entries.enumerate() {
         print!(rt; "entry {place}:")?;
         print_entry::<D>(rt, entry, width)?;
         println!(rt)?;
@@ -78,12 +68,7 @@ fn print_entry<D: Notation>(rt: &HostRuntime, entry: &[u8], width: usize) -> io:
 }
 
 fn all_zero(bytes: &[u8]) -> bool {
-    for byte in bytes {
-        if *byte != 0 {
-            return false;
-        }
-    }
-    true
+    bytes.iter().all(|byte| *byte == 0)
 }
 
 // A cell as the value that it holds, or as its bytes where it holds none.

@@ -1,5 +1,5 @@
-// Rows and inputs as people write them: variables are v0, v1, .. and places go by number.
-use crate::{Input, InputKind, Row};
+// Rows, inputs and outcomes as people write them: variables are v0, v1, .. and places go by number.
+use crate::{Input, InputKind, Outcome, Row};
 use std::fmt;
 
 impl fmt::Display for Row {
@@ -39,14 +39,27 @@ impl fmt::Display for Row {
     }
 }
 
-impl fmt::Display for Input {
+impl fmt::Display for InputKind {
     fn fmt<W: fmt::Write>(&self, f: &mut fmt::Formatter<W>) -> fmt::Result {
-        let kind = match self.kind {
+        f.write_str(match self {
             InputKind::Reading => "reading",
             InputKind::Setting => "setting",
-        };
-        let lo = self.lo;
-        let hi = self.hi;
-        write!(f, "{kind} {lo}..{hi}")
+        })
+    }
+}
+
+impl fmt::Display for Input {
+    fn fmt<W: fmt::Write>(&self, f: &mut fmt::Formatter<W>) -> fmt::Result {
+        write!(f, "{} {}..{}", self.kind, self.lo, self.hi)
+    }
+}
+
+impl fmt::Display for Outcome {
+    fn fmt<W: fmt::Write>(&self, f: &mut fmt::Formatter<W>) -> fmt::Result {
+        match *self {
+            Outcome::At { place } => write!(f, "at {place}"),
+            Outcome::Ended => write!(f, "ended"),
+            Outcome::Trapped { trap, place } => write!(f, "trap {trap} {place}"),
+        }
     }
 }

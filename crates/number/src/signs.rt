@@ -1,8 +1,8 @@
-// Operations and relations by their signs, as people write them.
+// Operations and relations by their signs, and traps, as people write them.
 ghost use Rattle.std.specs.Prelude.{◌≡◌};
 ghost use Rattle.number.specs.Signs.{op_sign, relation_sign, SignRead};
 
-use crate::{Op, Relation};
+use crate::{Op, Relation, Trap};
 use std::fmt;
 use std::str::FromStr;
 
@@ -89,5 +89,14 @@ impl FromStr for Relation {
             ">=" => Ok(Relation::AtLeast),
             _ => Err(UnknownSign),
         }
+    }
+}
+
+impl fmt::Display for Trap {
+    fn fmt<W: fmt::Write>(&self, f: &mut fmt::Formatter<W>) -> fmt::Result {
+        f.write_str(match self {
+            Trap::Zero => "zero",
+            Trap::Range => "range",
+        })
     }
 }

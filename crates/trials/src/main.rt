@@ -14,9 +14,9 @@ mod judging;
 use anyhow::{Context, anyhow};
 use catalog::DomainName;
 use judging::Judging;
-use sheet::{Refusal, Sheet};
+use sheet::Sheet;
 use std::alloc::{AllocError, Global};
-use std::io;
+use std::iter::repeat_n;
 
 fn main(rt: HostRuntime) -> anyhow::Result<()> {
     let mut sheet = Vec::new(rt.alloc());
@@ -58,10 +58,7 @@ fn add(sheet: &mut Vec<u8>, words: &str) -> anyhow::Result<()> {
 
 // Adds zero bytes.
 fn fill(sheet: &mut Vec<u8>, count: usize) -> Result<(), AllocError> {
-    for _ in 0..count {
-        sheet.push(0)?;
-    }
-    Ok(())
+    sheet.extend(repeat_n(0, count))
 }
 
 // Adds the last bytes of the sheet again: the words are how often, and how many.
@@ -85,10 +82,8 @@ fn with_edits(sheet: &Vec<u8>, heap: Global, words: &str) -> anyhow::Result<Vec<
     for word in words.split_whitespace() {
         let (at, byte) = word.split_once('=').context("an edit is AT=BYTE")?;
         let byte = byte.parse::<u8>()?;
-        match edited.get_mut(at.parse::<usize>()?) {
-            Some(place) => *place = byte,
-            None => return Err(anyhow!("an edit past the sheet")),
-        }
+        let place = edited.get_mut(at.parse::<usize>()?);
+        *place.context("an edit past the sheet")? = byte;
     }
     Ok(edited)
 }
@@ -102,7 +97,7 @@ fn answer(rt: &HostRuntime, edits: &str, sheet: &[u8]) -> anyhow::Result<()> {
     print!(rt; "{name}: ")?;
     match Sheet::read(sheet) {
         Ok(_) => println!(rt; "read")?,
-        Err(refusal) => refused(rt, refusal)?,
+        Err(refusal) => println!(rt; "refused {}", refusal.report())?,
     }
     Ok(())
 }
@@ -112,15 +107,7 @@ fn judge(rt: &HostRuntime, name: &str, domain: &str, sheet: &[u8]) -> anyhow::Re
     let domain: DomainName = domain.parse().ok().context("an unknown domain")?;
     match domain.run(&mut Judging { sheet }) {
         Ok(places) => println!(rt; "taken {places}")?,
-        Err(refusal) => refused(rt, refusal)?,
+        Err(refusal) => println!(rt; "refused {}", refusal.report())?,
     }
     Ok(())
-}
-
-fn refused(rt: &HostRuntime, refusal: Refusal) -> io::Result<()> {
-    let report = refusal.report();
-    println!(rt;
-        "refused {} {} {} {}",
-        report.number, report.place, report.way, report.variable
-    )
 }

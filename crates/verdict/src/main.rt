@@ -21,13 +21,7 @@ fn main(rt: HostRuntime) -> io::Result<()> {
     rt.stdin().take(LIMIT as u64 + 1).read_to_end(&mut bytes)?;
     match judged(bytes.as_slice()) {
         Ok(places) => println!(rt; "taken {places}"),
-        Err(refusal) => {
-            let report = refusal.report();
-            println!(rt;
-                "refused {} {} {} {}",
-                report.number, report.place, report.way, report.variable
-            )
-        }
+        Err(refusal) => println!(rt; "refused {}", refusal.report()),
     }
 }
 
