@@ -13,8 +13,8 @@ use bay::{Bay, stands};
 use catalog::Shipped;
 use dawn::morning_runs;
 use sheet::Refusal;
-use std::{env, fmt};
 use std::io::{BufRead, BufReader};
+use std::{env, fmt};
 
 mod commands;
 mod offers;

@@ -71,16 +71,14 @@ fn has_gaps(sheet: &Sheet<'_>, size: usize) -> bool {
     parts.saturating_add(28) != size
 }
 
-fn print_inputs(rt: &HostRuntime, sheet: &Sheet<'_>) -> io::Result<()>
-{
+fn print_inputs(rt: &HostRuntime, sheet: &Sheet<'_>) -> io::Result<()> {
     for number in 0..sheet.input_count {
         println!(rt; "input {number}: {}", sheet.input(number))?;
     }
     Ok(())
 }
 
-fn print_rows(rt: &HostRuntime, sheet: &Sheet<'_>) -> io::Result<()>
-{
+fn print_rows(rt: &HostRuntime, sheet: &Sheet<'_>) -> io::Result<()> {
     for place in 0..sheet.places {
         println!(rt; "{place}: {}", sheet.row(place))?;
     }

@@ -26,8 +26,7 @@ fn print_table<D: Notation>(
     rt: &HostRuntime,
     sheet: &Sheet<'_>,
     domain: DomainName,
-) -> io::Result<()>
-{
+) -> io::Result<()> {
     let Some(width) = sheet.cell_width() else {
         return println!(rt;
             "# the table has {} bytes, which are no entries with cells of 1 to 64 bytes",

@@ -46,8 +46,7 @@ fn print_part(rt: &HostRuntime, name: &str, count: usize, part: &Part<'_>) -> io
     )
 }
 
-fn print_inputs(rt: &HostRuntime, sheet: &Sheet<'_>) -> io::Result<()>
-{
+fn print_inputs(rt: &HostRuntime, sheet: &Sheet<'_>) -> io::Result<()> {
     print_part(rt, "inputs", sheet.input_count, &sheet.inputs)?;
     for number in 0..sheet.input_count {
         println!(rt; "input {number}: {}", sheet.input(number))?;
@@ -55,8 +54,7 @@ fn print_inputs(rt: &HostRuntime, sheet: &Sheet<'_>) -> io::Result<()>
     Ok(())
 }
 
-fn print_rows(rt: &HostRuntime, sheet: &Sheet<'_>) -> io::Result<()>
-{
+fn print_rows(rt: &HostRuntime, sheet: &Sheet<'_>) -> io::Result<()> {
     print_part(rt, "rows", sheet.places, &sheet.rows)?;
     for place in 0..sheet.places {
         println!(rt; "{place}: {}", sheet.row(place))?;
@@ -64,8 +62,7 @@ fn print_rows(rt: &HostRuntime, sheet: &Sheet<'_>) -> io::Result<()>
     Ok(())
 }
 
-fn print_table(rt: &HostRuntime, sheet: &Sheet<'_>) -> io::Result<()>
-{
+fn print_table(rt: &HostRuntime, sheet: &Sheet<'_>) -> io::Result<()> {
     print_part(rt, "table entries", sheet.places, &sheet.table)?;
     match sheet.cell_width() {
         None => println!(rt; "cells: no width from 1 to 64 bytes makes entries of that length"),
