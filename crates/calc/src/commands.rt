@@ -1,5 +1,5 @@
 // The commands, for any domain whose values can be written.
-use domain::Domain;
+use domain::{Domain, Worked};
 use notation::{Notation, parsed};
 use number::{Op, Relation};
 use std::fmt;
@@ -8,7 +8,7 @@ use std::fmt;
 #[derive(Drop)]
 pub enum Answer<D> {
     /// A value, the zero warning and the range warning.
-    Worked(D, bool, bool),
+    Worked(Worked<D>),
     /// A value, if there is one.
     Value(Option<D>),
     Covers(bool),
@@ -18,7 +18,7 @@ pub enum Answer<D> {
 impl<D: Notation> fmt::Display for Answer<D> {
     fn fmt<W: fmt::Write>(&self, f: &mut fmt::Formatter<W>) -> fmt::Result {
         match self {
-            Answer::Worked(value, zero, range) => {
+            Answer::Worked((value, zero, range)) => {
                 value.write(f)?;
                 if *zero {
                     write!(f, " zero")?;
@@ -41,8 +41,11 @@ fn work<D: Notation>(words: &[&str]) -> Option<Answer<D>> {
     let [a, sign, b] = words else {
         return None;
     };
-    let (value, zero, range) = D::work(sign.parse::<Op>().ok()?, parsed::<D>(a)?, parsed::<D>(b)?);
-    Some(Answer::Worked(value, zero, range))
+    Some(Answer::Worked(D::work(
+        sign.parse::<Op>().ok()?,
+        parsed::<D>(a)?,
+        parsed::<D>(b)?,
+    )))
 }
 
 fn narrow<D: Notation>(words: &[&str]) -> Option<Answer<D>> {

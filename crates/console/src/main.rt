@@ -12,6 +12,7 @@
 use bay::{Bay, stands};
 use catalog::Shipped;
 use dawn::morning_runs;
+use hex::FromHexError;
 use sheet::Refusal;
 use std::io::{BufRead, BufReader};
 use std::{env, fmt};
@@ -20,7 +21,7 @@ mod commands;
 mod offers;
 
 use commands::{Command, parsed};
-use offers::{Offering, bytes_of};
+use offers::Offering;
 
 fn main(rt: HostRuntime) -> anyhow::Result<()> {
     stands::<Shipped>();
@@ -62,13 +63,14 @@ fn answer(
     number: usize,
 ) -> anyhow::Result<()> {
     match command {
-        Command::Offer { domain, digits } => match bytes_of(rt.alloc(), digits)? {
-            Some(bytes) => {
+        Command::Offer { domain, digits } => match hex::decode(rt.alloc(), digits) {
+            Ok(bytes) => {
                 let sheet = bytes.as_slice();
                 let res = domain.run(&mut Offering { bay, sheet });
                 told(rt, res.map(|places| Taken(places)), explain)
             }
-            None => Ok(println!(rt; "error {number}")?),
+            Err(FromHexError::OutOfMemory) => Err(FromHexError::OutOfMemory.into()),
+            Err(_) => Ok(println!(rt; "error {number}")?),
         },
         Command::Start => told(rt, bay.start().map(|()| "done"), explain),
         Command::Stop => told(rt, bay.stop().map(|()| "done"), explain),

@@ -6,7 +6,7 @@
 mod tables;
 
 use notation::{DomainName, run_in};
-use sheet::Sheet;
+use sheet::{InputLines, RowLines, Sheet};
 use std::io::Read;
 use std::{env, io};
 use tables::Printing;
@@ -21,8 +21,8 @@ fn main(rt: HostRuntime) -> anyhow::Result<()> {
     match Sheet::read(bytes.as_slice()) {
         Ok(sheet) => {
             print_head(&rt, &sheet, bytes.len())?;
-            print_inputs(&rt, &sheet)?;
-            print_rows(&rt, &sheet)?;
+            print!(&rt; "{}", InputLines(sheet))?;
+            print!(&rt; "{}", RowLines(sheet))?;
             run_in(
                 domain,
                 &mut Printing {
@@ -69,18 +69,4 @@ fn has_gaps(sheet: &Sheet<'_>, size: usize) -> bool {
         .saturating_add(sheet.rows.bytes.len())
         .saturating_add(sheet.table.bytes.len());
     parts.saturating_add(28) != size
-}
-
-fn print_inputs(rt: &HostRuntime, sheet: &Sheet<'_>) -> io::Result<()> {
-    for number in 0..sheet.input_count {
-        println!(rt; "input {number}: {}", sheet.input(number))?;
-    }
-    Ok(())
-}
-
-fn print_rows(rt: &HostRuntime, sheet: &Sheet<'_>) -> io::Result<()> {
-    for place in 0..sheet.places {
-        println!(rt; "{place}: {}", sheet.row(place))?;
-    }
-    Ok(())
 }

@@ -13,6 +13,10 @@ use number::{Op, Relation};
 
 pub mod unknown;
 
+/// What working an operation gives: a value, whether the divisor may be 0, and whether the result may not fit 32 bits.
+// A tuple, and no struct with names: a rule of the project.
+pub type Worked<D> = (D, bool, bool);
+
 /// Values that describe integers of 32 bits. Each method answers what the record `ops` says.
 pub trait Domain: Copy {
     // The integers that a value describes.
@@ -46,8 +50,7 @@ pub trait Domain: Copy {
 
     /// What `op` gives on the integers that `a` and `b` describe, with two warnings:
     /// that the divisor may be 0, and that the result may not fit 32 bits.
-    // A tuple, and no struct with names: a rule of the project.
-    fn work(op: Op, a: Self, b: Self) -> (Self, bool, bool)
+    fn work(op: Op, a: Self, b: Self) -> Worked<Self>
         ensures { result ≡ ops.works op a b };
 
     /// What is left of `a` where it stands in the relation `rel` to `b`; none where nothing is left.

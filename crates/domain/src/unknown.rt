@@ -3,7 +3,7 @@
 ghost use Rattle.domain.specs.Nothing as Nothing;
 ghost use Rattle.std.proofs.Common.{rules};
 
-use super::Domain;
+use super::{Domain, Worked};
 use number::{Op, Relation};
 
 /// The one value of the domain that knows nothing.
@@ -50,7 +50,7 @@ impl Domain for Unknown {
         true
     }
 
-    fn work(_op: Op, _a: Unknown, _b: Unknown) -> (Unknown, bool, bool) {
+    fn work(_op: Op, _a: Unknown, _b: Unknown) -> Worked<Unknown> {
         (Unknown, true, true)
     }
 

@@ -9,9 +9,9 @@ ghost use Rattle.sheet.specs.Sheets.{Width};
 ghost use Rattle.sheet.specs.Views.{seen};
 
 use scan::piece;
-use sheet::{Part, Sheet};
-use std::io;
+use sheet::{InputLines, Part, RowLines, Sheet};
 use std::io::Read;
+use std::{fmt, io};
 
 // One byte more than a sheet may have.
 const LIMIT: u64 = 1_048_577;
@@ -22,8 +22,10 @@ fn main(rt: HostRuntime) -> io::Result<()> {
     match Sheet::read(bytes.as_slice()) {
         Ok(sheet) => {
             print_head(&rt, &sheet, bytes.len())?;
-            print_inputs(&rt, &sheet)?;
-            print_rows(&rt, &sheet)?;
+            print_part(&rt, "inputs", sheet.input_count, &sheet.inputs)?;
+            print!(&rt; "{}", InputLines(sheet))?;
+            print_part(&rt, "rows", sheet.places, &sheet.rows)?;
+            print!(&rt; "{}", RowLines(sheet))?;
             print_table(&rt, &sheet)
         }
         Err(refusal) => {
@@ -46,37 +48,16 @@ fn print_part(rt: &HostRuntime, name: &str, count: usize, part: &Part<'_>) -> io
     )
 }
 
-fn print_inputs(rt: &HostRuntime, sheet: &Sheet<'_>) -> io::Result<()> {
-    print_part(rt, "inputs", sheet.input_count, &sheet.inputs)?;
-    for number in 0..sheet.input_count {
-        println!(rt; "input {number}: {}", sheet.input(number))?;
-    }
-    Ok(())
-}
-
-fn print_rows(rt: &HostRuntime, sheet: &Sheet<'_>) -> io::Result<()> {
-    print_part(rt, "rows", sheet.places, &sheet.rows)?;
-    for place in 0..sheet.places {
-        println!(rt; "{place}: {}", sheet.row(place))?;
-    }
-    Ok(())
-}
-
 fn print_table(rt: &HostRuntime, sheet: &Sheet<'_>) -> io::Result<()> {
     print_part(rt, "table entries", sheet.places, &sheet.table)?;
     match sheet.cell_width() {
         None => println!(rt; "cells: no width from 1 to 64 bytes makes entries of that length"),
         Some(width) => {
             println!(rt; "cells: {width} bytes each")?;
-            print_entries(rt, sheet, width, Flag::Present, "present")?;
-            print_entries(rt, sheet, width, Flag::Absent, "absent")?;
-            print_entries(
-                rt,
-                sheet,
-                width,
-                Flag::Neither,
-                "neither present nor absent",
-            )
+            for flag in [Flag::Present, Flag::Absent, Flag::Neither] {
+                print_entries(rt, sheet, width, flag)?;
+            }
+            Ok(())
         }
     }
 }
@@ -87,6 +68,16 @@ enum Flag {
     Present,
     Absent,
     Neither,
+}
+
+impl fmt::Display for Flag {
+    fn fmt<W: fmt::Write>(&self, f: &mut fmt::Formatter<W>) -> fmt::Result {
+        f.write_str(match self {
+            Flag::Present => "present",
+            Flag::Absent => "absent",
+            Flag::Neither => "neither present nor absent",
+        })
+    }
 }
 
 // The first byte of the entry at `place`, where cells have `width` bytes.
@@ -109,13 +100,7 @@ fn entry_flag(sheet: &Sheet<'_>, width: usize, place: usize) -> Flag
 }
 
 // One line with the places whose entry has this flag, where there is one.
-fn print_entries(
-    rt: &HostRuntime,
-    sheet: &Sheet<'_>,
-    width: usize,
-    flag: Flag,
-    name: &str,
-) -> io::Result<()>
+fn print_entries(rt: &HostRuntime, sheet: &Sheet<'_>, width: usize, flag: Flag) -> io::Result<()>
     requires { Width (seen sheet.now) width }
 {
     let mut places = (0..sheet.places)
@@ -124,7 +109,7 @@ fn print_entries(
     if places.peek().is_none() {
         return Ok(());
     }
-    print!(rt; "{name}:")?;
+    print!(rt; "{flag}:")?;
     for place in places {
         print!(rt; " {place}")?;
     }

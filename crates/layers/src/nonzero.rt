@@ -3,7 +3,7 @@ ghost use Rattle.std.specs.Prelude.{◌≡◌, ◌||◌};
 ghost use Rattle.layers.specs.Marks.{unless0, marking, marks_kept, nonzero_ops};
 ghost use Rattle.layers.specs.NonzeroLaws.{nonzero-order, nonzero-reading, nonzero-working, nonzero-narrowing};
 
-use domain::Domain;
+use domain::{Domain, Worked};
 use number::{Op, Relation};
 
 /// A value of a domain with a mark. Marked, it describes what the domain's value describes but for 0.
@@ -88,7 +88,7 @@ impl<A: Domain> Domain for Nonzero<A> {
         A::covers(a.inner, b.inner) & (!a.marked | b.marked)
     }
 
-    fn work(op: Op, a: Self, b: Self) -> (Self, bool, bool) {
+    fn work(op: Op, a: Self, b: Self) -> Worked<Self> {
         let (inner, zero, range) = A::work(op, a.inner, b.inner);
         let marked = op == Op::Mul && a.marked && b.marked;
         let zero = zero && !(op == Op::Div && b.marked);

@@ -3,7 +3,7 @@ ghost use Rattle.std.specs.Prelude.{◌≡◌};
 ghost use Rattle.layers.specs.Pairs.{both, both_of, pair_ops};
 ghost use Rattle.layers.specs.PairLaws.{pair-order, pair-working, pair-narrowing, pair-reading};
 
-use domain::Domain;
+use domain::{Domain, Worked};
 use number::{Op, Relation};
 
 /// A value of each of two domains, which describes what both describe.
@@ -82,7 +82,7 @@ impl<A: Domain, B: Domain> Domain for Pair<A, B> {
         A::covers(a.first, b.first) & B::covers(a.second, b.second)
     }
 
-    fn work(op: Op, a: Self, b: Self) -> (Self, bool, bool) {
+    fn work(op: Op, a: Self, b: Self) -> Worked<Self> {
         let (first, first_zero, first_range) = A::work(op, a.first, b.first);
         let (second, second_zero, second_range) = B::work(op, a.second, b.second);
         (

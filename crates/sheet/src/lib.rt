@@ -15,3 +15,4 @@ mod words;
 pub use parts::{Part, PartName};
 pub use refusals::{Refusal, Report};
 pub use views::Sheet;
+pub use words::{InputLines, RowLines};

@@ -1,6 +1,7 @@
-// Refusals in words.
+// Refusals, inputs and rows in words.
 use crate::parts::PartName;
 use crate::refusals::{Refusal, Report};
+use crate::views::Sheet;
 use std::fmt;
 
 impl fmt::Display for Refusal {
@@ -116,6 +117,34 @@ impl fmt::Display for PartName {
             PartName::Rows => "rows",
             PartName::Table => "table",
         })
+    }
+}
+
+/// The inputs of a sheet, a line each.
+#[derive(Clone, Copy)]
+pub struct InputLines<'a>(pub Sheet<'a>);
+
+impl fmt::Display for InputLines<'_> {
+    fn fmt<W: fmt::Write>(&self, f: &mut fmt::Formatter<W>) -> fmt::Result {
+        // By number, which is written.
+        for number in 0..self.0.input_count {
+            writeln!(f, "input {number}: {}", self.0.input(number))?;
+        }
+        Ok(())
+    }
+}
+
+/// The rows of a sheet, a line each.
+#[derive(Clone, Copy)]
+pub struct RowLines<'a>(pub Sheet<'a>);
+
+impl fmt::Display for RowLines<'_> {
+    fn fmt<W: fmt::Write>(&self, f: &mut fmt::Formatter<W>) -> fmt::Result {
+        // By number, which is written.
+        for place in 0..self.0.places {
+            writeln!(f, "{place}: {}", self.0.row(place))?;
+        }
+        Ok(())
     }
 }
 

@@ -8,7 +8,7 @@ ghost use Rattle.span.specs.Model.{span_ops};
 ghost use Rattle.span.specs.SpanLaws.{span-order, span-reading, span-working, span-narrowing};
 
 use crate::{Span, narrowing, working};
-use domain::Domain;
+use domain::{Domain, Worked};
 use number::{Op, Relation};
 
 const WIDTH: usize = 8;
@@ -53,7 +53,7 @@ impl Domain for Span {
         Span::covers(a, b)
     }
 
-    fn work(op: Op, a: Span, b: Span) -> (Span, bool, bool)
+    fn work(op: Op, a: Span, b: Span) -> Worked<Span>
         ensures value { result ≡ works op a b }
         ensures means { Worked op a b result }
         ensures compares { Compared op a b result.0 }
@@ -70,7 +70,7 @@ impl Domain for Span {
 }
 
 /// The product of −3..2 and −4..5, which is −15..12, and what is left of −5..5 by ≠ and 0..0, which is −5..5.
-pub fn examples() -> ((Span, bool, bool), Option<Span>)
+pub fn examples() -> (Worked<Span>, Option<Span>)
     ensures product { result.0 ≡ (to (negsuc 14) (pos 12), false, false) }
     ensures hole { result.1 ≡ Some (to (negsuc 4) (pos 5)) }
     ensures table { Examples }

@@ -5,6 +5,7 @@ ghost use Rattle.span.specs.Ends.{has};
 ghost use Rattle.span.specs.Works.{always, cornered, highest, judged, lowest, ranged, warned, works};
 
 use crate::Span;
+use domain::Worked;
 use number::{Op, Relation};
 
 /// The least and the greatest result over the four pairs of ends.
@@ -55,7 +56,7 @@ fn judged(rel: Relation, a: Span, b: Span) -> Span
 }
 
 /// A sum, difference or product: the span between the corners, or the range warning.
-fn ranged(span: Option<Span>) -> (Span, bool, bool)
+fn ranged(span: Option<Span>) -> Worked<Span>
     ensures { result ≡ ranged span }
 {
     match span {
@@ -72,7 +73,7 @@ fn may_overflow(a: Span, b: Span) -> bool
 }
 
 /// A value with its warnings: with a warning, every integer.
-fn warned(zero: bool, range: bool, span: Span) -> (Span, bool, bool)
+fn warned(zero: bool, range: bool, span: Span) -> Worked<Span>
     ensures { result ≡ warned zero range span }
 {
     if zero || range {
@@ -83,7 +84,7 @@ fn warned(zero: bool, range: bool, span: Span) -> (Span, bool, bool)
 }
 
 /// A quotient: it warns of zero where `b` describes 0, and of the range where `a` describes −2^31 and `b` −1.
-fn quotient(a: Span, b: Span) -> (Span, bool, bool)
+fn quotient(a: Span, b: Span) -> Worked<Span>
     ensures { result ≡ works Op.Div a b }
 {
     warned(
@@ -94,7 +95,7 @@ fn quotient(a: Span, b: Span) -> (Span, bool, bool)
 }
 
 /// What an operation gives on the integers of two spans: a span, the zero warning and the range warning.
-pub fn work(op: Op, a: Span, b: Span) -> (Span, bool, bool)
+pub fn work(op: Op, a: Span, b: Span) -> Worked<Span>
     ensures { result ≡ works op a b }
 {
     match op {

@@ -11,7 +11,7 @@ ghost use Rattle.stride.specs.Rules.{NoMore, FromTo, Works, Narrows, Examples};
 ghost use Rattle.stride.specs.Strides as Strides;
 ghost use Rattle.stride.specs.StrideLaws.{stride-order, stride-reading, stride-working, stride-narrowing};
 
-use domain::Domain;
+use domain::{Domain, Worked};
 use number::{Op, Relation};
 pub use value::Stride;
 use working::{covering, narrowing, working};
@@ -65,7 +65,7 @@ impl Domain for Stride {
         covering(a, b)
     }
 
-    fn work(op: Op, a: Stride, b: Stride) -> (Stride, bool, bool)
+    fn work(op: Op, a: Stride, b: Stride) -> Worked<Stride>
         ensures model { result ≡ Strides.works op a b }
         ensures means { Works op a b result }
     {
@@ -81,7 +81,7 @@ impl Domain for Stride {
 }
 
 /// Works the odd numbers plus those that leave 3 by 4: the even numbers, with the range warning.
-pub fn example_sum() -> (Stride, bool, bool)
+pub fn example_sum() -> Worked<Stride>
     ensures answers { result ≡ (Strides.strided 2 (pos 0), false, true) }
     ensures means { Examples }
 {

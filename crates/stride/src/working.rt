@@ -5,6 +5,7 @@ ghost use Rattle.stride.specs.Strides.{made, anything, value, covers, works, nar
 
 use super::divisors::{gcd, is_multiple, reduced};
 use super::value::Stride;
+use domain::Worked;
 use number::{Op, Relation, Trap, difference, product, sum};
 
 impl Stride {
@@ -71,7 +72,7 @@ pub fn covering(a: Stride, b: Stride) -> bool
 }
 
 /// What the operation gives on two strides, with the zero warning and the range warning.
-pub fn working(op: Op, a: Stride, b: Stride) -> (Stride, bool, bool)
+pub fn working(op: Op, a: Stride, b: Stride) -> Worked<Stride>
     ensures { result ≡ works op a b }
 {
     if a.modulus == 0 && b.modulus == 0 {
@@ -95,7 +96,7 @@ pub fn narrowing(a: Stride, rel: Relation, b: Stride) -> Option<Stride>
 }
 
 /// Two constants are worked exactly, and warn exactly where they trap.
-fn work_constants(op: Op, a: i32, b: i32) -> (Stride, bool, bool)
+fn work_constants(op: Op, a: i32, b: i32) -> Worked<Stride>
     ensures { result ≡ constants (worked op a b) }
 {
     match op.apply(a, b) {
@@ -106,7 +107,7 @@ fn work_constants(op: Op, a: i32, b: i32) -> (Stride, bool, bool)
 }
 
 /// The stride of the integers that differ from `exact` by a multiple of `modulus`, with the range warning.
-fn moved(modulus: u16, exact: i64) -> (Stride, bool, bool)
+fn moved(modulus: u16, exact: i64) -> Worked<Stride>
     requires { 0 < modulus }
     ensures { result ≡ moved_to modulus exact }
 {
@@ -118,7 +119,7 @@ fn moved(modulus: u16, exact: i64) -> (Stride, bool, bool)
 }
 
 /// The operation on strides with the remainders `a` and `b`, whose moduli have the greatest common divisor `gcd`.
-fn work_moving(op: Op, gcd: u16, a: i32, b: i32) -> (Stride, bool, bool)
+fn work_moving(op: Op, gcd: u16, a: i32, b: i32) -> Worked<Stride>
     requires { 0 < gcd }
     ensures { result ≡ steps op gcd a b }
 {
