@@ -21,3 +21,13 @@ pub struct Entry<'g, 'a> {
     pub place: usize,
     ghost within: { place < grid.now.sheet.places },
 }
+
+/// Two variables of an entry, which its row works on or compares.
+#[derive(Clone, Copy)]
+pub struct Operands<'g, 'a> {
+    pub entry: Entry<'g, 'a>,
+    pub left: u8,
+    pub right: u8,
+    ghost left_there: { left < entry.grid.now.sheet.variables },
+    ghost right_there: { right < entry.grid.now.sheet.variables },
+}

@@ -7,7 +7,7 @@ ghost use Rattle.checker.specs.Grids.{routine_in, claims_in};
 ghost use Rattle.checker.specs.Scans.{assignment_right, fork_right, narrowed_to, row_right, place_checked};
 
 use crate::changes::{Change, Way};
-use crate::grids::{Entry, Grid};
+use crate::grids::{Entry, Grid, Operands};
 use crate::routes::{input_on, row_on};
 use domain::Domain;
 use machine::Row;
@@ -31,23 +31,17 @@ impl Entry<'_, '_> {
         };
         way.check()
     }
+}
 
+impl Operands<'_, '_> {
     // A work row may not warn of zero, then not of range; then it sets its variable to the result.
-    fn check_work<D: Domain>(
-        &self,
-        target: u8,
-        op: Op,
-        left: u8,
-        right: u8,
-        next: u8,
-    ) -> Result<(), Refusal>
-        requires operands { (left < self.now.grid.now.sheet.variables) × (right < self.now.grid.now.sheet.variables) }
-        requires next { next < self.now.grid.now.sheet.places }
-        ensures { Meets result (row_right D.Domain.ops self.now.grid.now self.now.place (Work target op left right next)) }
+    fn check_work<D: Domain>(&self, target: u8, op: Op, next: u8) -> Result<(), Refusal>
+        requires { next < self.now.entry.grid.now.sheet.places }
+        ensures { Meets result (row_right D.Domain.ops self.now.entry.grid.now self.now.entry.place (Work target op self.now.left self.now.right next)) }
     {
-        let place = self.place;
-        let a = self.claimed::<D>(left as usize);
-        let b = self.claimed::<D>(right as usize);
+        let place = self.entry.place;
+        let a = self.entry.claimed::<D>(self.left as usize);
+        let b = self.entry.claimed::<D>(self.right as usize);
         let (value, zero, range) = D::work(op, a, b);
         if zero {
             return Err(Refusal::ZeroWarning { place });
@@ -55,23 +49,22 @@ impl Entry<'_, '_> {
         if range {
             return Err(Refusal::RangeWarning { place });
         }
-        self.check_assignment::<D>(target, value, next)
+        self.entry.check_assignment::<D>(target, value, next)
     }
 
     // What both operands of a fork change to where the relation holds; none where the way is passed over.
-    fn narrowed<D: Domain>(&self, relation: Relation, left: u8, right: u8) -> Option<Change<D>>
-        requires { (left < self.now.grid.now.sheet.variables) × (right < self.now.grid.now.sheet.variables) }
-        ensures { result ≡ narrowed_to D.Domain.ops ((claims_in D.Domain.ops self.now.grid.now).cell self.now.place) relation left right }
+    fn narrowed<D: Domain>(&self, relation: Relation) -> Option<Change<D>>
+        ensures { result ≡ narrowed_to D.Domain.ops ((claims_in D.Domain.ops self.now.entry.grid.now).cell self.now.entry.place) relation self.now.left self.now.right }
     {
-        if left == right {
+        if self.left == self.right {
             return Some(Change::Nothing);
         }
-        let a = self.claimed::<D>(left as usize);
-        let b = self.claimed::<D>(right as usize);
+        let a = self.entry.claimed::<D>(self.left as usize);
+        let b = self.entry.claimed::<D>(self.right as usize);
         Some(Change::Two {
-            left: left as usize,
+            left: self.left as usize,
             first: D::narrow(a, relation, b)?,
-            right: right as usize,
+            right: self.right as usize,
             second: D::narrow(b, relation.mirrored(), a)?,
         })
     }
@@ -81,19 +74,16 @@ impl Entry<'_, '_> {
         &self,
         number: usize,
         relation: Relation,
-        left: u8,
-        right: u8,
         next: u8,
     ) -> Result<(), Refusal>
-        requires operands { (left < self.now.grid.now.sheet.variables) × (right < self.now.grid.now.sheet.variables) }
-        requires next { next < self.now.grid.now.sheet.places }
-        ensures { Meets result (fork_right D.Domain.ops self.now.grid.now self.now.place number relation left right next) }
+        requires { next < self.now.entry.grid.now.sheet.places }
+        ensures { Meets result (fork_right D.Domain.ops self.now.entry.grid.now self.now.entry.place number relation self.now.left self.now.right next) }
     {
-        let Some(change) = self.narrowed::<D>(relation, left, right) else {
+        let Some(change) = self.narrowed::<D>(relation) else {
             return Ok(());
         };
         let way = Way {
-            from: *self,
+            from: self.entry,
             number,
             change,
             next: next as usize,
@@ -105,19 +95,18 @@ impl Entry<'_, '_> {
     fn check_both<D: Domain>(
         &self,
         relation: Relation,
-        left: u8,
-        right: u8,
         next: u8,
         otherwise: u8,
     ) -> Result<(), Refusal>
-        requires operands { (left < self.now.grid.now.sheet.variables) × (right < self.now.grid.now.sheet.variables) }
-        requires ways { (next < self.now.grid.now.sheet.places) × (otherwise < self.now.grid.now.sheet.places) }
-        ensures { Meets result (row_right D.Domain.ops self.now.grid.now self.now.place (Fork relation left right next otherwise)) }
+        requires { (next < self.now.entry.grid.now.sheet.places) × (otherwise < self.now.entry.grid.now.sheet.places) }
+        ensures { Meets result (row_right D.Domain.ops self.now.entry.grid.now self.now.entry.place (Fork relation self.now.left self.now.right next otherwise)) }
     {
-        self.check_fork::<D>(0, relation, left, right, next)?;
-        self.check_fork::<D>(1, relation.opposite(), left, right, otherwise)
+        self.check_fork::<D>(0, relation, next)?;
+        self.check_fork::<D>(1, relation.opposite(), otherwise)
     }
+}
 
+impl Entry<'_, '_> {
     // The row at the place.
     fn check_row<D: Domain>(&self) -> Result<(), Refusal>
         ensures { Meets result (place_right D.Domain.ops (routine_in self.now.grid.now) (claims_in D.Domain.ops self.now.grid.now) self.now.place) }
@@ -144,14 +133,28 @@ impl Entry<'_, '_> {
                 left,
                 right,
                 next,
-            } => { self.check_work::<D>(target, op, left, right, next) }
+            } => {
+                let operands = Operands {
+                    entry: *self,
+                    left,
+                    right,
+                };
+                operands.check_work::<D>(target, op, next)
+            }
             Row::Fork {
                 relation,
                 left,
                 right,
                 next,
                 otherwise,
-            } => { self.check_both::<D>(relation, left, right, next, otherwise) }
+            } => {
+                let operands = Operands {
+                    entry: *self,
+                    left,
+                    right,
+                };
+                operands.check_both::<D>(relation, next, otherwise)
+            }
         }
     }
 
