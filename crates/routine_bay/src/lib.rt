@@ -47,13 +47,13 @@ pub fn routine_bay_play(calls: &[u8], answers: &mut [u64]) -> usize
 {
     let mut bay = Bay::new();
     let mut rest = calls;
-    for count in 0..answers.len() {
+    for (count, answer) in answers.iter_mut().enumerate() {
         let Some(call) = Record::first(rest) else {
             return count;
         };
         let (_, behind) = rest.split_at(12);
         let (sheet, tail) = behind.split_at(call.sheet_size());
-        answers[count] = perform(&mut bay, call, sheet);
+        *answer = perform(&mut bay, call, sheet);
         rest = tail;
     }
     answers.len()
