@@ -34,6 +34,7 @@ pub(crate) fn push_entry(
     match words {
         ["absent"] => {
             out.push(0)?;
+            // One `repeat_n` of `variables * cells.width()` asks for a bound on widths, which `Cells` does not keep.
             for _ in 0..variables {
                 out.extend(repeat_n(0, cells.width()))?;
             }
