@@ -4,4 +4,4 @@ pub mod Laying
 pub mod Spelled
 pub mod Written
 pub mod Sounding
-pub mod Fronts
+pub mod Records

@@ -71,7 +71,8 @@ impl<'a> Layout<'a> {
         requires { Fits (laid self.now) }
         ensures { result ≡ inputs_right (laid self.now) }
     {
-        for (number, record) in self.inputs.bytes.chunks_exact(9).enumerate() {
+        let (records, _) = self.inputs.bytes.as_chunks::<9>();
+        for (number, record) in records.iter().enumerate() {
             read_input(number, record)?;
         }
         Ok(())
@@ -87,7 +88,8 @@ impl<'a> Layout<'a> {
             inputs: self.input_count,
             places: self.places,
         };
-        for (place, record) in self.rows.bytes.chunks_exact(12).enumerate() {
+        let (records, _) = self.rows.bytes.as_chunks::<12>();
+        for (place, record) in records.iter().enumerate() {
             read_row(counts, place, record)?;
         }
         Ok(())

@@ -13,7 +13,6 @@ use crate::refusals::Refusal;
 use crate::rows::decode_row;
 use crate::views::Sheet;
 use machine::{Input, Row};
-use scan::piece;
 
 impl<'a> Sheet<'a> {
     /// Reads a sheet: its parts, or the first rule of format that it breaks.
@@ -48,8 +47,8 @@ impl<'a> Sheet<'a> {
         ensures stated { result ≡ input_in (chunk 9 number (seen self.now).inputs.bytes) }
         ensures proper { Proper result }
     {
-        let record = piece(self.inputs.bytes, 9, self.input_count, number);
-        match read_input(number, record) {
+        let (records, _) = self.inputs.bytes.as_chunks::<9>();
+        match read_input(number, &records[number]) {
             Ok(input) => input,
             Err(_) => unreachable(),
         }
@@ -62,8 +61,8 @@ impl<'a> Sheet<'a> {
         ensures stated { result ≡ row_in (chunk 12 place (seen self.now).rows.bytes) }
         ensures names { Names self.now.variables self.now.input_count self.now.places result }
     {
-        let record = piece(self.rows.bytes, 12, self.places, place);
-        decode_row(record)
+        let (records, _) = self.rows.bytes.as_chunks::<12>();
+        decode_row(&records[place])
     }
 
     /// How many bytes a cell has, where the table is as long as a flag and a cell for each variable

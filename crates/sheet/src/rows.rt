@@ -1,6 +1,6 @@
 // A row of a sheet: 12 bytes. They are the kind, x, a code or an input, a, b, t, u, a zero byte,
 // and n in four bytes.
-ghost use Rattle.std.specs.Prelude.{◌≡◌, length};
+ghost use Rattle.std.specs.Prelude.{◌≡◌};
 ghost use Rattle.scan.specs.Scan.{up_to};
 ghost use Rattle.sheet.specs.Bytes.{AllBytes};
 ghost use Rattle.sheet.specs.Rows.{limits, row_byte, row_in, row_of};
@@ -35,8 +35,7 @@ fn byte_limits(counts: Counts, kind: u8) -> [usize; 12]
 }
 
 // Names the lowest byte of the row at `place` that is not below its limit.
-fn check_bytes(most: &[usize; 12], place: usize, bytes: &[u8]) -> Result<(), Refusal>
-    requires { length bytes.now ≡ 12 }
+fn check_bytes(most: &[usize; 12], place: usize, bytes: &[u8; 12]) -> Result<(), Refusal>
     ensures { result ≡ up_to (row_byte most.now place bytes.now) 12 }
 {
     for byte in 0..12 {
@@ -48,46 +47,42 @@ fn check_bytes(most: &[usize; 12], place: usize, bytes: &[u8]) -> Result<(), Ref
 }
 
 // What the bytes of a row say. A code that is none, which a row that was read has not, counts as 0.
-pub(crate) fn decode_row(bytes: &[u8]) -> Row
-    requires { length bytes.now ≡ 12 }
+pub(crate) fn decode_row(bytes: &[u8; 12]) -> Row
     ensures value { result ≡ row_in bytes.now }
     ensures bytes { AllBytes bytes.now }
 {
-    let [kind, x, code, a, b, t, u, _, n0, n1, n2, n3] = bytes else {
-        unreachable()
-    };
-    match *kind {
+    let [kind, x, code, a, b, t, u, _, n0, n1, n2, n3] = *bytes;
+    match kind {
         0 => Row::End,
         1 => Row::Put {
-            target: *x,
-            value: i32::from_le_bytes([*n0, *n1, *n2, *n3]),
-            next: *t,
+            target: x,
+            value: i32::from_le_bytes([n0, n1, n2, n3]),
+            next: t,
         },
         2 => Row::Take {
-            target: *x,
-            input: *code,
-            next: *t,
+            target: x,
+            input: code,
+            next: t,
         },
         3 => Row::Work {
-            target: *x,
-            op: Op::try_from(*code).unwrap_or(Op::Add),
-            left: *a,
-            right: *b,
-            next: *t,
+            target: x,
+            op: Op::try_from(code).unwrap_or(Op::Add),
+            left: a,
+            right: b,
+            next: t,
         },
         _ => Row::Fork {
-            relation: Relation::try_from(*code).unwrap_or(Relation::Less),
-            left: *a,
-            right: *b,
-            next: *t,
-            otherwise: *u,
+            relation: Relation::try_from(code).unwrap_or(Relation::Less),
+            left: a,
+            right: b,
+            next: t,
+            otherwise: u,
         },
     }
 }
 
 // Reads the bytes of the row at `place`.
-pub(crate) fn read_row(counts: Counts, place: usize, bytes: &[u8]) -> Result<Row, Refusal>
-    requires { length bytes.now ≡ 12 }
+pub(crate) fn read_row(counts: Counts, place: usize, bytes: &[u8; 12]) -> Result<Row, Refusal>
     ensures { result ≡ row_of counts.variables counts.inputs counts.places place bytes.now }
 {
     check_bytes(&byte_limits(counts, bytes[0]), place, bytes)?;

@@ -1,12 +1,9 @@
-use Rattle.std.proofs.Common.{◌≡◌, ◌*◌, drop, Ok}
+use Rattle.std.proofs.Common.{◌≡◌, Ok}
 use Rattle.scan.specs.Scan.{up_to, passed}
 use Rattle.sheet.specs.Inputs.{input_at}
 use Rattle.sheet.specs.Views.{laid}
 use Rattle.sheet.proofs.layouts.Layout.check_inputs.Given as goal
 
--- the records so far are right, and the others are left
+-- the records so far are right
 abbrev pub invariant-loop-number : goal.invariant-loop-number
-invariant-loop-number l =
-    (up_to (λ i. passed (input_at (laid l.self) i)) l.number-iterator.count ≡ Ok tt)
-    × (l.number-iterator.iter.rest.now ≡ drop (l.number-iterator.count * 9) l.self.inputs.bytes.now)
-    × (l.number-iterator.iter.size ≡ 9)
+invariant-loop-number l = up_to (λ i. passed (input_at (laid l.self) i)) l.number ≡ Ok tt
