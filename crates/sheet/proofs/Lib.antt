@@ -5,3 +5,4 @@ pub mod Spelled
 pub mod Written
 pub mod Sounding
 pub mod Records
+pub mod Limits

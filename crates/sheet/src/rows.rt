@@ -38,12 +38,11 @@ fn byte_limits(counts: Counts, kind: u8) -> [usize; 12]
 fn check_bytes(most: &[usize; 12], place: usize, bytes: &[u8; 12]) -> Result<(), Refusal>
     ensures { result ≡ up_to (row_byte most.now place bytes.now) 12 }
 {
-    for byte in 0..12 {
-        if bytes[byte] as usize >= most[byte] {
-            return Err(Refusal::RowByte { place, byte });
-        }
-    }
-    Ok(())
+    let wrong = bytes
+        .iter()
+        .zip(most)
+        .position(|(&byte, &limit)| usize::from(byte) >= limit);
+    wrong.map_or(Ok(()), |byte| Err(Refusal::RowByte { place, byte }))
 }
 
 // What the bytes of a row say. A code that is none, which a row that was read has not, counts as 0.
