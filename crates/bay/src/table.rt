@@ -6,6 +6,7 @@ mod items;
 use std::alloc::AllocError;
 
 /// A list of at most `N` items: the first `count` of them are held, the others are left over.
+// An array with its count, since the bay asks for no memory and is copied; `ArrayVec` of the library is not.
 #[derive(Copy)]
 pub struct Table<T, const N: usize> {
     items: [T; N],

@@ -41,11 +41,7 @@ fn work<D: Notation>(words: &[&str]) -> Option<Answer<D>> {
     let [a, sign, b] = words else {
         return None;
     };
-    Some(Answer::Worked(D::work(
-        sign.parse::<Op>().ok()?,
-        parsed::<D>(a)?,
-        parsed::<D>(b)?,
-    )))
+    Some(Answer::Worked(D::work(sign.parse::<Op>().ok()?, parsed::<D>(a)?, parsed::<D>(b)?)))
 }
 
 fn narrow<D: Notation>(words: &[&str]) -> Option<Answer<D>> {
@@ -73,7 +69,7 @@ fn value<D: Notation>(words: &[&str]) -> Option<Answer<D>> {
     Some(Answer::Value(Some(D::value(lo.parse::<i32>().ok()?, hi.parse::<i32>().ok()?))))
 }
 
-// The words are the bytes of a cell, at most 64.
+// The words are the bytes of a cell, at most 64: so many fit in an array, and no memory is asked for.
 fn read<D: Notation>(words: &[&str]) -> Option<Answer<D>> {
     let mut cell = [0u8; 64];
     for (byte, word) in cell.iter_mut().zip(words.iter()) {

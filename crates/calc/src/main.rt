@@ -31,7 +31,7 @@ fn main(rt: HostRuntime) -> anyhow::Result<()> {
     Ok(())
 }
 
-// Prints what the words answer; false where they are not understood.
+// Prints what the words answer; false where they are not understood, a yes or no with no value beside it.
 fn understood(rt: &HostRuntime, words: &[&str]) -> anyhow::Result<bool> {
     let [name, words @ ..] = words else {
         return Ok(false);

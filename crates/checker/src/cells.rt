@@ -24,7 +24,8 @@ impl<'a> Entry<'_, 'a> {
         self.bytes()[0]
     }
 
-    // The cell of a variable.
+    // The cell of a variable. That there is one of this number is asked where a number comes in, here and below: a row's
+    // variables are `Operands`, and others are counted from 0.
     pub(crate) fn cell(&self, variable: usize) -> &'a [u8]
         requires { variable < self.now.grid.now.sheet.variables }
         ensures { result.now ≡ cell_at (shown self.now.grid.now) self.now.place variable }

@@ -44,7 +44,7 @@ fn main(rt: HostRuntime) -> anyhow::Result<()> {
     Ok(())
 }
 
-// Whether refusals are told in words too.
+// Whether refusals are told in words too: a yes or no with no value beside it.
 fn wants_words(rt: &HostRuntime) -> anyhow::Result<bool> {
     for word in env::args(rt)?.skip(1) {
         if word.as_str() == "explain" {

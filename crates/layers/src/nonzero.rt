@@ -6,7 +6,7 @@ ghost use Rattle.layers.specs.NonzeroLaws.{nonzero-order, nonzero-reading, nonze
 use domain::{Domain, Worked};
 use number::{Op, Relation};
 
-/// A value of a domain with a mark. Marked, it describes what the domain's value describes but for 0.
+/// A value of a domain with a mark, both always there. Marked, it describes what the domain's value describes but for 0.
 /// Its cell is the mark, a byte 0 or 1, and then the domain's cell.
 #[derive(Clone, Copy)]
 pub struct Nonzero<A> {

@@ -11,6 +11,7 @@ pub fn gcd(a: u16, b: u16) -> u16
 {
     let mut low = b;
     let mut high = a;
+    // Euclid's algorithm, which counts no index.
     while low != 0 {
         let rest = high % low;
         high = low;

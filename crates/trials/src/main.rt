@@ -70,6 +70,7 @@ fn again(sheet: &mut Vec<u8>, heap: Global, words: &str) -> anyhow::Result<()> {
         .context("a longer piece than the sheet")?;
     let (_, last) = sheet.as_slice().split_at(start);
     let piece = Vec::from_slice(heap, last)?;
+    // So many times again: it counts no index.
     for _ in 0..count.parse::<usize>()? {
         sheet.extend_from_slice(piece.as_slice())?;
     }
