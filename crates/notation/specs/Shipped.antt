@@ -4,6 +4,8 @@ use Rattle.std.specs.Prelude.{◌≡◌, ℕ, ◌+◌, Bool, true, false, ◌⊎
 use Rattle.span.specs.declared.Span.{Span}
 use Rattle.layers.specs.declared.pair.Pair.{Pair}
 use Rattle.notation.specs.Cells.{span_cell, stride_cell, marked_cell, pair_cell}
+use Rattle.hex.specs.declared.error.FromHexError.{FromHexError}
+use Rattle.hex.specs.declared.error.FromHexError.TheVariants.{InvalidHexCharacter, OddLength, InvalidStringLength, OutOfMemory}
 use Rattle.catalog.specs.Domains.{width_of}
 use Rattle.notation.specs.declared.cells.CellError.{CellError}
 use Rattle.notation.specs.declared.cells.CellError.TheVariants.{NoValue, Memory}
@@ -51,6 +53,13 @@ AddedIn d = Added (writing_of d).cell
 abbrev pub BytesAdded : ℕ → List ℕ → List ℕ → Bool → Type 0
 BytesAdded count before after took =
     (take (length before) after ≡ before) × (took ≡ true → length after ≡ length before + count)
+
+-- digits that are no bytes are no cell; memory may run out while they are read
+abbrev pub cell_error : FromHexError → CellError
+cell_error (InvalidHexCharacter c index) = NoValue
+cell_error OddLength = NoValue
+cell_error InvalidStringLength = NoValue
+cell_error OutOfMemory = Memory
 
 -- how many bytes the cells of a table have
 abbrev pub cells_width : Cells → ℕ

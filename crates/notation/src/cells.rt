@@ -55,8 +55,8 @@ impl Cells {
 impl From<AllocError> for CellError {
     ghost from_gives = { λ _ e. e ≡ Memory };
 
-    fn from(_e: AllocError) -> CellError {
-        CellError::Memory
+    fn from(_e: AllocError) -> Self {
+        Self::Memory
     }
 }
 

@@ -1,5 +1,6 @@
 // Bytes in hexadecimal, two digits each.
-ghost use Rattle.notation.specs.Shipped.{BytesAdded, Told};
+ghost use Rattle.std.specs.Prelude.{◌≡◌};
+ghost use Rattle.notation.specs.Shipped.{BytesAdded, Told, cell_error};
 
 use crate::cells::CellError;
 use hex::FromHexError;
@@ -31,6 +32,8 @@ pub(crate) fn push_bytes(digits: &str, count: usize, out: &mut Vec<u8>) -> Resul
 }
 
 impl From<FromHexError> for CellError {
+    ghost from_gives = { λ e r. r ≡ cell_error e };
+
     fn from(e: FromHexError) -> CellError {
         match e {
             FromHexError::OutOfMemory => CellError::Memory,
