@@ -23,7 +23,7 @@ impl Table<HeldInput, MAX_INPUTS> {
         ensures settings { held_settings self.new ≡ map (λ i. i.lo) (routine_of (seen sheet.now)).inputs }
     {
         self.clear();
-        // By number, as the inputs of a routine are told.
+        // A `for`: after `for_each` a proof knows nothing of what was pushed.
         for number in 0..sheet.input_count {
             let input = input_on(sheet, number);
             let setting = input.lo;

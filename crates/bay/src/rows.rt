@@ -15,7 +15,7 @@ impl Table<Row, MAX_PLACES> {
         ensures { held self.new ≡ (routine_of (seen sheet.now)).rows }
     {
         self.clear();
-        // By number, as the rows of a routine are told.
+        // A `for`: after `for_each` a proof knows nothing of what was pushed.
         for place in 0..sheet.places {
             self.push(row_on(sheet, place));
         }

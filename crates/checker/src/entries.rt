@@ -27,7 +27,7 @@ impl Entry<'_, '_> {
     fn check_cells<D: Domain>(&self) -> Result<(), Refusal>
         ensures { Meets result (up_to (cell_right D.Domain.ops (shown self.now.grid.now) self.now.place) self.now.grid.now.sheet.variables) }
     {
-        // By number, which a refusal names.
+        // A `for`: of `try_for_each` over the numbers it was not proved what it answers.
         for variable in 0..self.grid.sheet.variables {
             self.check_cell::<D>(variable)?;
         }
@@ -50,7 +50,7 @@ impl Entry<'_, '_> {
 pub(crate) fn check_entries<D: Domain>(grid: &Grid<'_>) -> Result<(), Refusal>
     ensures { Meets result (entries_right D.Domain.ops (shown grid.now)) }
 {
-    // By number, which a refusal names.
+    // A `for`: of `try_for_each` over the numbers it was not proved what it answers.
     for place in 0..grid.sheet.places {
         let entry = Entry { grid, place };
         entry.check::<D>()?;

@@ -174,7 +174,7 @@ impl Entry<'_, '_> {
 pub(crate) fn check_places<D: Domain>(grid: &Grid<'_>) -> Result<(), Refusal>
     ensures { Meets result (places_right D.Domain.ops (routine_in grid.now) (claims_in D.Domain.ops grid.now) grid.now.sheet.places) }
 {
-    // By number, which a refusal names.
+    // A `for`: of `try_for_each` over the numbers it was not proved what it answers.
     for place in 0..grid.sheet.places {
         let entry = Entry { grid, place };
         entry.check_present::<D>()?;

@@ -27,7 +27,7 @@ fn check_zero<D: Domain>(grid: &Grid<'_>, variable: usize) -> Result<(), Refusal
 fn check_zeros<D: Domain>(grid: &Grid<'_>) -> Result<(), Refusal>
     ensures { Meets result (up_to (start_cell D.Domain.ops grid.now) grid.now.sheet.variables) }
 {
-    // By number, which a refusal names.
+    // A `for`: of `try_for_each` over the numbers it was not proved what it answers.
     for variable in 0..grid.sheet.variables {
         check_zero::<D>(grid, variable)?;
     }

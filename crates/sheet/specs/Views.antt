@@ -2,7 +2,7 @@
 use Rattle.std.specs.Prelude.{Ok, Err, Result}
 use Rattle.sheet.specs.Parts.{Parts}
 use Rattle.sheet.specs.Sound.{laid_out}
-use Rattle.sheet.specs.declared.layouts.Layout.{Layout}
+use Rattle.sheet.specs.declared.views.Layout.{Layout}
 use Rattle.sheet.specs.declared.views.Sheet.{Sheet}
 
 abbrev pub seen : Sheet → Parts

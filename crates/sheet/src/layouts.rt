@@ -1,27 +1,19 @@
 // The layout of a sheet: its parts, before its inputs and rows are read.
-ghost use Rattle.std.specs.Prelude.{◌≡◌, ◌≤◌};
-ghost use Rattle.sheet.specs.Inputs.{inputs_right};
+ghost use Rattle.std.specs.Prelude.{◌≡◌, ◌<◌, ◌≤◌, MatchOption};
+ghost use Rattle.scan.specs.Scan.{chunk};
+ghost use Rattle.sheet.specs.Inputs.{input_at, inputs_right};
 ghost use Rattle.sheet.specs.Parts.{parts_of, sizes_right};
 ghost use Rattle.sheet.specs.Regions.{region};
-ghost use Rattle.sheet.specs.Rows.{rows_right};
-ghost use Rattle.sheet.specs.Sheets.{Fits};
+ghost use Rattle.sheet.specs.Rows.{row_at, row_in, rows_right};
+ghost use Rattle.sheet.specs.Sheets.{Width, NoWidth};
 ghost use Rattle.sheet.specs.Views.{laid, laid_in};
 
 use crate::inputs::read_input;
 use crate::parts::{Part, PartName, check_head, check_size, lay_out};
 use crate::refusals::Refusal;
-use crate::rows::{Counts, read_row};
-
-/// The parts of a sheet, with the counts of its head.
-#[derive(Clone, Copy)]
-pub(crate) struct Layout<'a> {
-    pub variables: usize,
-    pub input_count: usize,
-    pub places: usize,
-    pub inputs: Part<'a>,
-    pub rows: Part<'a>,
-    pub table: Part<'a>,
-}
+use crate::rows::{Counts, decode_row, read_row};
+use crate::views::Layout;
+use machine::{Input, Row};
 
 // 9 bytes an input; 12 bytes a row, for 1 to 256 rows.
 fn check_sizes(inputs: usize, input_part: Part<'_>, row_part: Part<'_>) -> Result<(), Refusal>
@@ -43,8 +35,8 @@ fn check_sizes(inputs: usize, input_part: Part<'_>, row_part: Part<'_>) -> Resul
 }
 
 impl<'a> Layout<'a> {
-    // Lays out the parts, and looks no further.
-    pub(crate) fn open(bytes: &'a [u8]) -> Result<Layout<'a>, Refusal>
+    /// Lays out the parts of a sheet, and looks no further.
+    pub fn open(bytes: &'a [u8]) -> Result<Layout<'a>, Refusal>
         ensures { laid_in result ≡ parts_of bytes.now }
     {
         check_size(bytes)?;
@@ -66,9 +58,55 @@ impl<'a> Layout<'a> {
         })
     }
 
+    /// The input with this number, or why it is none.
+    pub fn input(&self, number: usize) -> Result<Input, Refusal>
+        requires { number < self.now.input_count }
+        ensures { result ≡ input_at (laid self.now) number }
+    {
+        let (records, _) = self.inputs.bytes.as_chunks::<9>();
+        read_input(number, &records[number])
+    }
+
+    /// The row at this place, or why it is none.
+    pub fn row(&self, place: usize) -> Result<Row, Refusal>
+        requires { place < self.now.places }
+        ensures { result ≡ row_at (laid self.now) place }
+    {
+        let Layout {
+            variables,
+            input_count: inputs,
+            places,
+            ..
+        } = *self;
+        let counts = Counts {
+            variables,
+            inputs,
+            places,
+        };
+        let (records, _) = self.rows.bytes.as_chunks::<12>();
+        read_row(counts, place, &records[place])
+    }
+
+    /// What the bytes of the row at this place say, whether or not they are right; `row` tells that.
+    pub fn stated_row(&self, place: usize) -> Row
+        requires { place < self.now.places }
+        ensures { result ≡ row_in (chunk 12 place (laid self.now).rows.bytes) }
+    {
+        let (records, _) = self.rows.bytes.as_chunks::<12>();
+        decode_row(&records[place])
+    }
+
+    /// How many bytes a cell has, where the table is as long as a flag and a cell for each variable
+    /// at each place: from 1 to 64, and at most one such number.
+    pub fn cell_width(&self) -> Option<usize>
+        ensures { MatchOption result (NoWidth (laid self.now)) (Width (laid self.now)) }
+    {
+        let size = self.table.bytes.len();
+        (1..65).find(|&width| size == self.places * (1 + self.variables * width))
+    }
+
     // Reads every input.
     pub(crate) fn check_inputs(&self) -> Result<(), Refusal>
-        requires { Fits (laid self.now) }
         ensures { result ≡ inputs_right (laid self.now) }
     {
         let (records, _) = self.inputs.bytes.as_chunks::<9>();
@@ -80,7 +118,6 @@ impl<'a> Layout<'a> {
 
     // Reads every row.
     pub(crate) fn check_rows(&self) -> Result<(), Refusal>
-        requires { Fits (laid self.now) }
         ensures { result ≡ rows_right (laid self.now) }
     {
         let counts = Counts {

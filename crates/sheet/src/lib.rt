@@ -14,5 +14,5 @@ mod words;
 
 pub use parts::{Part, PartName};
 pub use refusals::{Refusal, Report};
-pub use views::Sheet;
+pub use views::{Layout, Sheet};
 pub use words::{InputLines, RowLines};

@@ -5,13 +5,12 @@ ghost use Rattle.sheet.specs.Format.{Means, Names, Proper};
 ghost use Rattle.sheet.specs.Inputs.{input_at, input_in};
 ghost use Rattle.sheet.specs.Rows.{row_at, row_in};
 ghost use Rattle.sheet.specs.Sheets.{sheet_of, Width, NoWidth};
-ghost use Rattle.sheet.specs.Views.{seen, seen_in};
+ghost use Rattle.sheet.specs.Views.{laid, seen, seen_in};
 
 use crate::inputs::read_input;
-use crate::layouts::Layout;
 use crate::refusals::Refusal;
 use crate::rows::decode_row;
-use crate::views::Sheet;
+use crate::views::{Layout, Sheet};
 use machine::{Input, Row};
 
 impl<'a> Sheet<'a> {
@@ -70,7 +69,20 @@ impl<'a> Sheet<'a> {
     pub fn cell_width(&self) -> Option<usize>
         ensures { MatchOption result (NoWidth (seen self.now)) (Width (seen self.now)) }
     {
-        let size = self.table.bytes.len();
-        (1..65).find(|&width| size == self.places * (1 + self.variables * width))
+        self.layout().cell_width()
+    }
+
+    /// The same sheet, of which is known only how it is laid out.
+    pub fn layout(&self) -> Layout<'a>
+        ensures { laid result ≡ seen self.now }
+    {
+        Layout {
+            variables: self.variables,
+            input_count: self.input_count,
+            places: self.places,
+            inputs: self.inputs,
+            rows: self.rows,
+            table: self.table,
+        }
     }
 }

@@ -54,8 +54,7 @@ impl Span {
         ensures value { result ≡ has self z }
         ensures means { Decides result (Within self z) }
     {
-        // Two tests: through `contains` of a range the clause `means` was not proved.
-        self.lo <= z && z <= self.hi
+        (self.lo..=self.hi).contains(&z)
     }
 
     /// Whether the ends of `other` lie within, so that all it describes does.

@@ -150,7 +150,7 @@ impl Draft {
         Ok(bytes)
     }
 
-    // Counts the line, and takes in what its words say. What is refused adds nothing.
+    // Counts the line, and takes in what its words say. What is refused adds no variables, no input, no row and no entry.
     fn take_in(&mut self, text: &str) -> Result<(), Reason>
         ensures grows { Grows self.old self.new }
         ensures keeps { KeepsVariables self.old self.new }

@@ -35,13 +35,6 @@ impl Bay {
         ensures value { result ≡ show_of variable (view self.now) }
         ensures rule { Happens (view self.now) (showing variable) (told result) (view self.now) }
     {
-        self.look(variable)
-    }
-
-    // Apart from `show`: with the rule beside it the search does not close the equation's cases.
-    fn look(&self, variable: usize) -> Result<Shown, Refusal>
-        ensures { result ≡ show_of variable (view self.now) }
-    {
         if self.mode == Mode::Empty {
             return Err(Refusal::NothingHeld);
         }

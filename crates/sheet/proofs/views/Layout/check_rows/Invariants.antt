@@ -2,7 +2,7 @@ use Rattle.std.proofs.Common.{◌≡◌, Ok}
 use Rattle.scan.specs.Scan.{up_to, passed}
 use Rattle.sheet.specs.Rows.{row_at}
 use Rattle.sheet.specs.Views.{laid}
-use Rattle.sheet.proofs.layouts.Layout.check_rows.Given as goal
+use Rattle.sheet.proofs.views.Layout.check_rows.Given as goal
 
 -- the records so far are right
 abbrev pub invariant-loop-place : goal.invariant-loop-place

@@ -5,7 +5,7 @@ use Rattle.scan.proofs.Scans.{up_next, up-stops, passed_ok, passed-err}
 use Rattle.sheet.specs.Inputs.{input_at, input_of}
 use Rattle.sheet.specs.Views.{laid}
 use Rattle.sheet.proofs.Records.{record-at}
-use Rattle.sheet.proofs.layouts.Layout.check_inputs.Goals as goal
+use Rattle.sheet.proofs.views.Layout.check_inputs.Goals as goal
 
 pub returns-in_err-read_input : goal.returns-in_err-read_input
 returns-in_err-read_input c =

@@ -1,0 +1,11 @@
+use Rattle.std.proofs.Common.{ap, ◌∙◌, arith}
+use Rattle.sheet.specs.Rows.{row_of}
+use Rattle.sheet.specs.Views.{laid}
+use Rattle.sheet.proofs.Records.{record-at}
+use Rattle.sheet.proofs.views.Layout.row.Goals as goal
+
+pub returns : goal.returns
+returns c =
+    let s = laid c.args.self.now in
+    let record-here = record-at 12 c.args.place s.rows.bytes _ c.as_chunks.ensures.front (omega (arith, c.args.self.now.fits.rows, c.requires)) in
+    c.read_row.ensures ∙ ap (row_of s.variables s.input_count s.places c.args.place) record-here
