@@ -37,69 +37,32 @@ impl<D: Notation> fmt::Display for Answer<D> {
     }
 }
 
-fn work<D: Notation>(words: &[&str]) -> Option<Answer<D>> {
-    let [a, sign, b] = words else {
-        return None;
-    };
-    Some(Answer::Worked(D::work(sign.parse::<Op>().ok()?, parsed::<D>(a)?, parsed::<D>(b)?)))
-}
-
-fn narrow<D: Notation>(words: &[&str]) -> Option<Answer<D>> {
-    let [a, sign, b] = words else {
-        return None;
-    };
-    Some(Answer::Value(D::narrow(
-        parsed::<D>(a)?,
-        sign.parse::<Relation>().ok()?,
-        parsed::<D>(b)?,
-    )))
-}
-
-fn covers<D: Notation>(words: &[&str]) -> Option<Answer<D>> {
-    let [a, b] = words else {
-        return None;
-    };
-    Some(Answer::Covers(D::covers(parsed::<D>(a)?, parsed::<D>(b)?)))
-}
-
-fn value<D: Notation>(words: &[&str]) -> Option<Answer<D>> {
-    let [lo, hi] = words else {
-        return None;
-    };
-    Some(Answer::Value(Some(D::value(lo.parse::<i32>().ok()?, hi.parse::<i32>().ok()?))))
-}
-
-// The words are the bytes of a cell, at most 64: so many fit in an array, and no memory is asked for.
-fn read<D: Notation>(words: &[&str]) -> Option<Answer<D>> {
-    let mut cell = [0u8; 64];
-    for (byte, word) in cell.iter_mut().zip(words.iter()) {
-        *byte = word.parse::<u8>().ok()?;
-    }
-    Some(Answer::Value(D::read(cell.get(0..words.len())?)))
-}
-
-fn blank<D: Notation>(words: &[&str]) -> Option<Answer<D>> {
-    let [index] = words else {
-        return None;
-    };
-    let byte = D::blank(index.parse::<usize>().ok()?);
-    Some(Answer::Number(byte as usize))
-}
-
 /// What the words of a command after the domain's name answer, if they are understood.
 pub(crate) fn answered<D: Notation>(words: &[&str]) -> Option<Answer<D>> {
-    let [verb, words @ ..] = words else {
-        return None;
-    };
-    match *verb {
-        "work" => work::<D>(words),
-        "narrow" => narrow::<D>(words),
-        "covers" => covers::<D>(words),
-        "value" => value::<D>(words),
-        "anything" => Some(Answer::Value(Some(D::anything()))),
-        "read" => read::<D>(words),
-        "blank" => blank::<D>(words),
-        "width" => Some(Answer::Number(D::width())),
-        _ => None,
+    Some(match words {
+        ["work", a, sign, b] => {
+            let op = sign.parse::<Op>().ok()?;
+            Answer::Worked(D::work(op, parsed::<D>(a)?, parsed::<D>(b)?))
+        }
+        ["narrow", a, sign, b] => {
+            let relation = sign.parse::<Relation>().ok()?;
+            Answer::Value(D::narrow(parsed::<D>(a)?, relation, parsed::<D>(b)?))
+        }
+        ["covers", a, b] => Answer::Covers(D::covers(parsed::<D>(a)?, parsed::<D>(b)?)),
+        ["value", lo, hi] => Answer::Value(Some(D::value(lo.parse().ok()?, hi.parse().ok()?))),
+        ["anything", ..] => Answer::Value(Some(D::anything())),
+        ["read", bytes @ ..] => Answer::Value(read::<D>(bytes)?),
+        ["blank", index] => Answer::Number(usize::from(D::blank(index.parse().ok()?))),
+        ["width", ..] => Answer::Number(D::width()),
+        _ => return None,
+    })
+}
+
+// The value of a cell of these bytes, at most 64: so many fit in an array, and no memory is asked for.
+fn read<D: Notation>(words: &[&str]) -> Option<Option<D>> {
+    let mut cell = [0u8; 64];
+    for (byte, word) in cell.iter_mut().zip(words) {
+        *byte = word.parse().ok()?;
     }
+    Some(D::read(cell.get(..words.len())?))
 }

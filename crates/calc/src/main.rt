@@ -17,14 +17,12 @@ use commands::answered;
 use notation::{DomainName, InNotation, Notation, run_in};
 
 fn main(rt: HostRuntime) -> anyhow::Result<()> {
-    let mut number = 0u64;
-    for line in rt.lines(rt.alloc()) {
+    for (index, line) in rt.lines(rt.alloc()).enumerate() {
         let line = line?;
-        number = number.saturating_add(1);
         if !line.as_str().trim().is_empty() && !line.as_str().starts_with('#') {
             let words: Vec<&str> = line.as_str().split_whitespace().collect(rt.alloc())?;
             if !understood(&rt, words.as_slice())? {
-                println!(rt; "error {number}")?;
+                println!(rt; "error {}", index + 1)?;
             }
         }
     }
