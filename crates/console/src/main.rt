@@ -28,10 +28,10 @@ fn main(rt: HostRuntime) -> anyhow::Result<()> {
     morning_runs();
     let explain = wants_words(&rt)?;
     let mut bay = Bay::new();
-    let mut number = 0usize;
-    for line in BufReader::new(rt.alloc(), rt.stdin())?.lines(rt.alloc()) {
+    let lines = BufReader::new(rt.alloc(), rt.stdin())?.lines(rt.alloc());
+    for (index, line) in lines.enumerate() {
         let line = line?;
-        number = number.saturating_add(1);
+        let number = index + 1;
         let text = line.as_str().trim();
         if text.is_empty() || text.starts_with('#') {
             continue;
@@ -46,12 +46,8 @@ fn main(rt: HostRuntime) -> anyhow::Result<()> {
 
 // Whether refusals are told in words too: a yes or no with no value beside it.
 fn wants_words(rt: &HostRuntime) -> anyhow::Result<bool> {
-    for word in env::args(rt)?.skip(1) {
-        if word.as_str() == "explain" {
-            return Ok(true);
-        }
-    }
-    Ok(false)
+    let mut words = env::args(rt)?.skip(1);
+    Ok(words.any(|word| word.as_str() == "explain"))
 }
 
 // Makes the call and prints its answer.
