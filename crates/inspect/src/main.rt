@@ -54,8 +54,12 @@ fn print_table(rt: &HostRuntime, sheet: &Sheet<'_>) -> io::Result<()> {
         None => println!(rt; "cells: no width from 1 to 64 bytes makes entries of that length"),
         Some(width) => {
             println!(rt; "cells: {width} bytes each")?;
+            let entries = Entries {
+                sheet: *sheet,
+                width,
+            };
             for flag in [Flag::Present, Flag::Absent, Flag::Neither] {
-                print_entries(rt, sheet, width, flag)?;
+                entries.print(rt, flag)?;
             }
             Ok(())
         }
@@ -70,6 +74,18 @@ enum Flag {
     Neither,
 }
 
+impl From<u8> for Flag {
+    ghost from_gives = { λ byte flag. flag ≡ flag_of byte };
+
+    fn from(byte: u8) -> Flag {
+        match byte {
+            0 => Flag::Absent,
+            1 => Flag::Present,
+            _ => Flag::Neither,
+        }
+    }
+}
+
 impl fmt::Display for Flag {
     fn fmt<W: fmt::Write>(&self, f: &mut fmt::Formatter<W>) -> fmt::Result {
         f.write_str(match self {
@@ -80,38 +96,37 @@ impl fmt::Display for Flag {
     }
 }
 
-// The first byte of the entry at `place`, where cells have `width` bytes.
-fn entry_flag(sheet: &Sheet<'_>, width: usize, place: usize) -> Flag
-    requires wide { Width (seen sheet.now) width }
-    requires within { place < sheet.now.places }
-    ensures { result ≡ flag_of (slice_index (chunk (1 + sheet.now.variables * width) place sheet.now.table.bytes.now) 0) }
-{
-    let entry = piece(
-        sheet.table.bytes,
-        1 + sheet.variables * width,
-        sheet.places,
-        place,
-    );
-    match entry[0] {
-        0 => Flag::Absent,
-        1 => Flag::Present,
-        _ => Flag::Neither,
-    }
+// The entries of a sheet, in which cells have `width` bytes.
+#[derive(Clone, Copy)]
+struct Entries<'a> {
+    sheet: Sheet<'a>,
+    width: usize,
+    ghost wide: { Width (seen sheet) width },
 }
 
-// One line with the places whose entry has this flag, where there is one.
-fn print_entries(rt: &HostRuntime, sheet: &Sheet<'_>, width: usize, flag: Flag) -> io::Result<()>
-    requires { Width (seen sheet.now) width }
-{
-    let mut places = (0..sheet.places)
-        .filter(|place| entry_flag(sheet, width, *place) == flag)
-        .peekable();
-    if places.peek().is_none() {
-        return Ok(());
+impl Entries<'_> {
+    // The first byte of the entry at `place`.
+    fn flag(&self, place: usize) -> Flag
+        requires within { place < self.now.sheet.places }
+        ensures { result ≡ flag_of (slice_index (chunk (1 + self.now.sheet.variables * self.now.width) place self.now.sheet.table.bytes.now) 0) }
+    {
+        let size = 1 + self.sheet.variables * self.width;
+        let entry = piece(self.sheet.table.bytes, size, self.sheet.places, place);
+        entry[0].into()
     }
-    print!(rt; "{flag}:")?;
-    for place in places {
-        print!(rt; " {place}")?;
+
+    // One line with the places whose entry has this flag, where there is one.
+    fn print(&self, rt: &HostRuntime, flag: Flag) -> io::Result<()> {
+        let mut places = (0..self.sheet.places)
+            .filter(|&place| self.flag(place) == flag)
+            .peekable();
+        if places.peek().is_none() {
+            return Ok(());
+        }
+        print!(rt; "{flag}:")?;
+        for place in places {
+            print!(rt; " {place}")?;
+        }
+        println!(rt)
     }
-    println!(rt)
 }
