@@ -16,64 +16,54 @@ pub struct Printing<'a> {
 impl InNotation for Printing<'_> {
     type Answer = io::Result<()>;
 
+    // The table with its cells as values of `D`, if that is their width, else as bytes alone.
     fn run<D: Notation>(&mut self) -> io::Result<()> {
-        print_table::<D>(self.rt, &self.sheet, self.domain)
+        let Some(width) = self.sheet.cell_width() else {
+            return println!(self.rt;
+                "# the table has {} bytes, which are no entries with cells of 1 to 64 bytes",
+                self.sheet.table.bytes.len()
+            );
+        };
+        if width == D::width() {
+            println!(self.rt; "table: {}", self.domain)?;
+        } else {
+            println!(self.rt; "table: {width} bytes a cell")?;
+        }
+        let size = 1 + self.sheet.variables * width;
+        for (place, entry) in self.sheet.table.bytes.chunks(size).enumerate() {
+            print!(self.rt; "entry {place}:")?;
+            self.print_entry::<D>(entry, width)?;
+            println!(self.rt)?;
+        }
+        Ok(())
     }
 }
 
-// The table with its cells as values of `D`, if that is their width, else as bytes alone.
-fn print_table<D: Notation>(
-    rt: &HostRuntime,
-    sheet: &Sheet<'_>,
-    domain: DomainName,
-) -> io::Result<()> {
-    let Some(width) = sheet.cell_width() else {
-        return println!(rt;
-            "# the table has {} bytes, which are no entries with cells of 1 to 64 bytes",
-            sheet.table.bytes.len()
-        );
-    };
-    if width == D::width() {
-        println!(rt; "table: {domain}")?;
-    } else {
-        println!(rt; "table: {width} bytes a cell")?;
+impl Printing<'_> {
+    // An entry: `absent` where all is 0, else its cells, behind the flag where that is not 1.
+    fn print_entry<D: Notation>(&self, entry: &[u8], width: usize) -> io::Result<()>
+        requires { 0 < width }
+    {
+        let [flag, cells @ ..] = entry else {
+            return Ok(());
+        };
+        if *flag == 0 && cells.iter().all(|byte| *byte == 0) {
+            return print!(self.rt; " absent");
+        }
+        if *flag != 1 {
+            print!(self.rt; " flag {flag}")?;
+        }
+        for cell in cells.chunks(width) {
+            self.print_cell::<D>(cell)?;
+        }
+        Ok(())
     }
-    let entries = sheet.table.bytes.chunks(1 + sheet.variables * width);
-    for (place, entry) in entries.enumerate() {
-        print!(rt; "entry {place}:")?;
-        print_entry::<D>(rt, entry, width)?;
-        println!(rt)?;
-    }
-    Ok(())
-}
 
-// An entry: `absent` where all is 0, else its cells, behind the flag where that is not 1.
-fn print_entry<D: Notation>(rt: &HostRuntime, entry: &[u8], width: usize) -> io::Result<()>
-    requires { 0 < width }
-{
-    let [flag, cells @ ..] = entry else {
-        return Ok(());
-    };
-    if *flag == 0 && all_zero(cells) {
-        return print!(rt; " absent");
-    }
-    if *flag != 1 {
-        print!(rt; " flag {flag}")?;
-    }
-    for cell in cells.chunks(width) {
-        print_cell::<D>(rt, cell)?;
-    }
-    Ok(())
-}
-
-fn all_zero(bytes: &[u8]) -> bool {
-    bytes.iter().all(|byte| *byte == 0)
-}
-
-// A cell as the value that it holds, or as its bytes where it holds none.
-fn print_cell<D: Notation>(rt: &HostRuntime, cell: &[u8]) -> io::Result<()> {
-    match D::read(cell) {
-        Some(value) => print!(rt; " {}", Written(value)),
-        None => print!(rt; " #{}", Hexadecimal(cell)),
+    // A cell as the value that it holds, or as its bytes where it holds none.
+    fn print_cell<D: Notation>(&self, cell: &[u8]) -> io::Result<()> {
+        match D::read(cell) {
+            Some(value) => print!(self.rt; " {}", Written(value)),
+            None => print!(self.rt; " #{}", Hexadecimal(cell)),
+        }
     }
 }
