@@ -10,8 +10,7 @@ use Rattle.bay.specs.Calls.{Call, Answer, Happens}
 use Rattle.bay.specs.Model.{View, nothing}
 use Rattle.bay.specs.Stands.{traps_in}
 use Rattle.routine_bay.specs.Fields.{fields, packed_report}
-use Rattle.routine_bay.specs.Records.{front, call_of, sheet_behind, rest_behind}
-use Rattle.routine_bay.specs.declared.records.Record.{Record}
+use Rattle.routine_bay.specs.Records.{Record, front, call_of, sheet_behind, rest_behind}
 
 -- a trap by its number
 abbrev pub trap_code : Trap → ℕ

@@ -1,14 +1,29 @@
 -- A list of calls in bytes: records of 12 bytes, and behind that of an offer its sheet. Assumes nothing.
-use Rattle.std.specs.Prelude.{ℕ, ◌+◌, cond, List, [], ◌∷◌, length, take, drop, Some, None, Option, nat_le, slice_index}
+use Rattle.std.specs.Prelude.{◌≡◌, ℕ, ℤ, ◌+◌, cond, List, [], ◌∷◌, length, take, drop, Some, None, Option, nat_le, slice_index}
 use Rattle.number.specs.Codes.{nth}
 use Rattle.sheet.specs.Bytes.{word_at, integer_at}
 use Rattle.rules.specs.Tables.{verdict_of}
 use Rattle.bay.specs.Calls as Calls
 use Rattle.catalog.specs.Domains.{named, dom}
 use Rattle.catalog.specs.declared.names.DomainName.{DomainName}
-use Rattle.routine_bay.specs.declared.records.Kind.{Kind}
-use Rattle.routine_bay.specs.declared.records.Kind.TheVariants.{Offer, Start, Set, Step, Stop, Show}
-use Rattle.routine_bay.specs.declared.records.Record.{Record}
+use Rattle.routine_bay.specs.declared.records.Call.{Call}
+use Rattle.routine_bay.specs.declared.records.Call.TheVariants as Read
+
+-- the six calls
+pub data Kind : Type 0 where
+  Offer : Kind
+  Start : Kind
+  Set : Kind
+  Step : Kind
+  Stop : Kind
+  Show : Kind
+
+-- a call as it is written: which of the six it is, a domain, a number and an integer
+pub record Record : Type 0 where
+  pub kind : Kind
+  pub domain : ℕ
+  pub number : ℕ
+  pub value : ℤ
 
 -- the calls by their codes, from 0
 abbrev pub kinds : List Kind
@@ -68,3 +83,16 @@ call_by Show r sheet = Some (Calls.show r.number)
 
 abbrev pub call_of : Record → List ℕ → Option Calls.Call
 call_of r sheet = call_by r.kind r sheet
+
+-- the call that a call as it is read asks for; none where it offers in no domain
+abbrev pub asked : Call → Option Calls.Call
+asked (Read.Offer domain sheet) = offer_in (named domain) sheet.now
+asked Read.Start = Some Calls.begin
+asked (Read.Set number value) = Some (Calls.change number value)
+asked (Read.Step value) = Some (Calls.step value)
+asked Read.Stop = Some Calls.stop
+asked (Read.Show number) = Some (Calls.show number)
+
+-- a list is read as a call and what is left behind it: they are those of the record at its front
+abbrev pub Reads : List ℕ → Call → List ℕ → Type 0
+Reads bs call rest = (r : Record) × (front bs ≡ Some r) × (asked call ≡ call_of r (sheet_behind r bs)) × (rest ≡ rest_behind r bs)

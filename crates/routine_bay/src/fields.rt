@@ -5,6 +5,17 @@ ghost use Rattle.routine_bay.specs.Fields.{fields, packed_report, verdict_report
 
 use sheet::Refusal;
 
+// What follows are the C interface's numbers (docs/LINKING.md).
+// In place of a word: no domain has the number that was given.
+pub(crate) const NO_DOMAIN: u64 = 255;
+
+// How a step came out, in the field of the way; 0 is at a place.
+pub(crate) const ENDED: usize = 1;
+
+pub(crate) const BY_ZERO: usize = 2;
+
+pub(crate) const OUT_OF_RANGE: usize = 3;
+
 // A number in bits 0 to 7, a place in bits 8 to 23, a way in bits 24 to 31, and a value in bits 32 to 63.
 pub(crate) fn packed(number: usize, place: usize, way: usize, value: usize) -> u64
     ensures { result ≡ fields number place way value }
@@ -25,8 +36,5 @@ pub(crate) fn refusal_word(refusal: Refusal) -> u64
 pub(crate) fn verdict_word(verdict: Result<usize, Refusal>) -> u64
     ensures { result ≡ packed_report (verdict_report verdict) }
 {
-    match verdict {
-        Ok(places) => packed(0, places, 0, 0),
-        Err(refusal) => refusal_word(refusal),
-    }
+    verdict.map_or_else(refusal_word, |places| packed(0, places, 0, 0))
 }

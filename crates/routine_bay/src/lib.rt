@@ -16,10 +16,10 @@ mod records;
 use bay::Bay;
 use catalog::{DomainName, Spans as SpansDomain};
 use checker::verdict;
-use fields::verdict_word;
+use fields::{NO_DOMAIN, verdict_word};
 use named::judge;
 use plays::perform;
-use records::Record;
+use records::Call;
 
 /// The verdict on a sheet in the domain that a number names, as four numbers in one: the rule that it breaks (0: it is
 /// taken; 255: no domain has that number) in bits 0 to 7, the place (of a sheet that is taken, how many it has) in bits 8
@@ -29,7 +29,7 @@ pub fn routine_bay_verdict(domain: u32, sheet: &[u8]) -> u64
 {
     match DomainName::try_from(domain) {
         Ok(name) => verdict_word(judge(name, sheet)),
-        Err(_) => 255,
+        Err(_) => NO_DOMAIN,
     }
 }
 
@@ -48,13 +48,11 @@ pub fn routine_bay_play(calls: &[u8], answers: &mut [u64]) -> usize
     let mut bay = Bay::new();
     let mut rest = calls;
     for (count, answer) in answers.iter_mut().enumerate() {
-        let Some(call) = Record::first(rest) else {
+        let Some((call, behind)) = Call::first(rest) else {
             return count;
         };
-        let (_, behind) = rest.split_at(12);
-        let (sheet, tail) = behind.split_at(call.sheet_size());
-        *answer = perform(&mut bay, call, sheet);
-        rest = tail;
+        *answer = perform(&mut bay, call);
+        rest = behind;
     }
     answers.len()
 }

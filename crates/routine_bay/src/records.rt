@@ -1,77 +1,55 @@
 // A list of calls in bytes: records of 12 bytes, and behind that of an offer its sheet.
-ghost use Rattle.std.specs.Prelude.{◌≡◌};
-ghost use Rattle.std.specs.Option.{ok_or};
-ghost use Rattle.routine_bay.specs.Records.{front, sheet_size, kind_of};
+ghost use Rattle.std.specs.Prelude.{◌≡◌, None, MatchOption};
+ghost use Rattle.routine_bay.specs.Records.{front, Reads};
 
-use number::UnknownCode;
-
-/// The six calls, in the order of their codes.
+/// A call as it is read: which of the six, and what it takes.
 #[derive(Clone, Copy)]
-pub enum Kind {
-    Offer,
+pub enum Call<'a> {
+    Offer { domain: u8, sheet: &'a [u8] },
     Start,
-    Set,
-    Step,
+    Set { number: u32, value: i32 },
+    Step { value: i32 },
     Stop,
-    Show,
+    Show { number: u32 },
 }
 
-/// A call as it is written: which of the six it is, a domain, a number and an integer.
-#[derive(Clone, Copy)]
-pub struct Record {
-    pub kind: Kind,
-    pub domain: u8,
-    pub number: u32,
-    pub value: i32,
-}
-
-/// The call of a code from 0 to 5.
-impl TryFrom<u8> for Kind {
-    type Error = UnknownCode;
-
-    ghost try_from_gives = { λ code r. r ≡ ok_or (kind_of code) (record { 0 = code }) };
-
-    fn try_from(code: u8) -> Result<Kind, UnknownCode> {
-        match code {
-            0 => Ok(Kind::Offer),
-            1 => Ok(Kind::Start),
-            2 => Ok(Kind::Set),
-            3 => Ok(Kind::Step),
-            4 => Ok(Kind::Stop),
-            5 => Ok(Kind::Show),
-            _ => Err(UnknownCode(code)),
-        }
-    }
-}
-
-impl Record {
-    // How many bytes of a sheet follow the record: those of an offer.
-    pub(crate) fn sheet_size(self) -> usize
-        ensures { result ≡ sheet_size self }
+impl<'a> Call<'a> {
+    // The call at the front of a list and what is left behind it, if one stands there whole.
+    pub(crate) fn first(list: &'a [u8]) -> Option<(Call<'a>, &'a [u8])>
+        ensures { MatchOption result (front list.now ≡ None) (λ p. Reads list.now p.0 p.1.now) }
     {
-        match self.kind {
-            Kind::Offer => self.number as usize,
-            _ => 0,
-        }
-    }
-
-    // The record at the front of a list, if a call stands there whole.
-    pub(crate) fn first(list: &[u8]) -> Option<Record>
-        ensures { result ≡ front list.now }
-    {
-        let [kind, domain, _, _, n0, n1, n2, n3, v0, v1, v2, v3, ..] = list else {
+        let [
+            code,
+            domain,
+            _,
+            _,
+            n0,
+            n1,
+            n2,
+            n3,
+            v0,
+            v1,
+            v2,
+            v3,
+            tail @ ..,
+        ] = list
+        else {
             return None;
         };
-        let kind = Kind::try_from(*kind).ok()?;
-        let record = Record {
-            kind,
-            domain: *domain,
-            number: u32::from_le_bytes([*n0, *n1, *n2, *n3]),
-            value: i32::from_le_bytes([*v0, *v1, *v2, *v3]),
-        };
-        if list.len() < 12 + record.sheet_size() {
-            return None;
+        let number = u32::from_le_bytes([*n0, *n1, *n2, *n3]);
+        let value = i32::from_le_bytes([*v0, *v1, *v2, *v3]);
+        match *code {
+            0 => {
+                let (sheet, rest) = tail.split_at_checked(number as usize)?;
+                let domain = *domain;
+                Some((Call::Offer { domain, sheet }, rest))
+            }
+            1 => Some((Call::Start, tail)),
+            2 => Some((Call::Set { number, value }, tail)),
+            3 => Some((Call::Step { value }, tail)),
+            4 => Some((Call::Stop, tail)),
+            5 => Some((Call::Show { number }, tail)),
+            _ => None,
         }
-        Some(record)
     }
 }

@@ -1,4 +1,4 @@
-use Rattle.std.proofs.Common.{ℕ, List, take, drop, refl, ◌∙◌, ap₂, arith}
+use Rattle.std.proofs.Common.{refl, arith}
 use Rattle.bay.specs.Views.{view}
 use Rattle.routine_bay.proofs.Playing.{none-at, more-at, others-at, full_at}
 use Rattle.routine_bay.proofs.routine_bay_play.Goals as goal
@@ -8,12 +8,9 @@ loop-count-init c = (none-at c.args.calls.now (view c.new-bay.result) c.new-bay.
 
 pub loop-count-preserved : goal.loop-count-preserved
 loop-count-preserved c =
-    let l = c.loop-count in
-    let two = c.split_at-in-loop-count in (
-      more-at c.args.calls.now (view l.bay) (view c.perform.new.bay) l.rest.now l.answers two.result.0.now two.result.1.now
+    let l = c.loop-count in (
+      more-at c.args.calls.now (view l.bay) (view c.perform.new.bay) l.rest.now l.answers c.in-Some.behind.now
           l.count c.perform.result c.in-Some.call l.invariant.0 c.in-Some.ensures
-          (two.ensures.front ∙ ap₂ (λ (n : ℕ) (bs : List ℕ). take n bs) c.sheet_size.ensures c.split_at.ensures.back)
-          (two.ensures.back ∙ ap₂ (λ (n : ℕ) (bs : List ℕ). drop n bs) c.sheet_size.ensures c.split_at.ensures.back)
           c.perform.ensures (omega (arith, c.loop-count-test.true, l.auto.answers)),
       others-at l.answers c.args.answers.now l.count c.perform.result l.invariant.1,
     )
