@@ -18,30 +18,13 @@ impl<'a> Call<'a> {
     pub(crate) fn first(list: &'a [u8]) -> Option<(Call<'a>, &'a [u8])>
         ensures { MatchOption result (front list.now ≡ None) (λ p. Reads list.now p.0 p.1.now) }
     {
-        let [
-            code,
-            domain,
-            _,
-            _,
-            n0,
-            n1,
-            n2,
-            n3,
-            v0,
-            v1,
-            v2,
-            v3,
-            tail @ ..,
-        ] = list
-        else {
-            return None;
-        };
-        let number = u32::from_le_bytes([*n0, *n1, *n2, *n3]);
-        let value = i32::from_le_bytes([*v0, *v1, *v2, *v3]);
-        match *code {
+        let (record, tail) = list.split_first_chunk::<12>()?;
+        let [code, domain, _, _, n0, n1, n2, n3, v0, v1, v2, v3] = *record;
+        let number = u32::from_le_bytes([n0, n1, n2, n3]);
+        let value = i32::from_le_bytes([v0, v1, v2, v3]);
+        match code {
             0 => {
                 let (sheet, rest) = tail.split_at_checked(number as usize)?;
-                let domain = *domain;
                 Some((Call::Offer { domain, sheet }, rest))
             }
             1 => Some((Call::Start, tail)),
