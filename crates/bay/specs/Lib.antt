@@ -4,3 +4,4 @@ pub mod Model
 pub mod Stands
 pub mod Tables
 pub mod Views
+pub mod Words

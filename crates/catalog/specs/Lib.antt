@@ -3,3 +3,4 @@ pub mod Examples
 pub mod Names
 pub mod Lawful
 pub mod Domains
+pub mod Words

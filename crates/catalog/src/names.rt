@@ -1,7 +1,8 @@
 // The domains that ship, by name and by number, and what is done in the domain that a name stands for.
-ghost use Rattle.std.specs.Prelude.{◌≡◌, ⊤};
+ghost use Rattle.std.specs.Prelude.{◌≡◌, ⊤, Some};
 ghost use Rattle.domain.specs.Carrier.{Dom, as_dom};
 ghost use Rattle.catalog.specs.Domains.{name_of, width_of, dom, Named, Numbered};
+ghost use Rattle.catalog.specs.Words.{unknown_name_words, unknown_number_words};
 
 use crate::{
     NonzeroPair, NonzeroSpans, NonzeroSpansStrides, NonzeroStrides, Spans, Spans8, Spans9,
@@ -160,18 +161,24 @@ impl TryFrom<u32> for DomainName {
 }
 
 impl fmt::Display for DomainName {
+    ghost output = { λ domain. Some (name_of domain) };
+
     fn fmt<W: fmt::Write>(&self, f: &mut fmt::Formatter<W>) -> fmt::Result {
         f.write_str(self.name())
     }
 }
 
 impl fmt::Display for UnknownName {
+    ghost output = { λ error. Some (unknown_name_words error) };
+
     fn fmt<W: fmt::Write>(&self, f: &mut fmt::Formatter<W>) -> fmt::Result {
         f.write_str("no domain has that name")
     }
 }
 
 impl fmt::Display for UnknownNumber {
+    ghost output = { λ error. Some (unknown_number_words error) };
+
     fn fmt<W: fmt::Write>(&self, f: &mut fmt::Formatter<W>) -> fmt::Result {
         f.write_str("no domain has that number")
     }

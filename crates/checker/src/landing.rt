@@ -46,7 +46,9 @@ impl<'g, 'a, D: Domain> Way<'g, 'a, D> {
         }
     }
 
-    // Whether the entry gone to covers a variable as the way changes it.
+    // Whether the entry gone to covers a variable as the way changes it. Inlined, as the next is: else a verdict on forks in
+    // spans takes a fourth more instructions.
+    #[inline(always)]
     fn is_covered(&self, variable: usize) -> bool
         requires { variable < self.now.from.grid.now.sheet.variables }
         ensures { result ≡ covers D.Domain.ops self.now variable }
@@ -55,6 +57,7 @@ impl<'g, 'a, D: Domain> Way<'g, 'a, D> {
     }
 
     // The same of a variable that the routine may not have.
+    #[inline(always)]
     fn is_covered_if_any(&self, variable: usize) -> bool
         ensures { result ≡ true → variable < self.now.from.grid.now.sheet.variables → covers D.Domain.ops self.now variable ≡ true }
     {

@@ -14,6 +14,7 @@ use catalog::Shipped;
 use dawn::morning_runs;
 use hex::FromHexError;
 use sheet::Refusal;
+use std::alloc::AllocError;
 use std::io::{BufRead, BufReader};
 use std::{env, fmt};
 
@@ -65,7 +66,7 @@ fn answer(
                 let res = domain.run(&mut Offering { bay, sheet });
                 told(rt, res.map(|places| Taken(places)), explain)
             }
-            Err(FromHexError::OutOfMemory) => Err(FromHexError::OutOfMemory.into()),
+            Err(FromHexError::OutOfMemory) => Err(AllocError.into()),
             Err(_) => Ok(println!(rt; "error {number}")?),
         },
         Command::Start => told(rt, bay.start().map(|()| "done"), explain),

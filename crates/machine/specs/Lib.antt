@@ -3,3 +3,4 @@ pub mod Inputs
 pub mod Kinds
 pub mod Runs
 pub mod Steps
+pub mod Words

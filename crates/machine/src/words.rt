@@ -1,4 +1,7 @@
 // Rows, inputs and outcomes as people write them: variables are v0, v1, .. and places go by number.
+ghost use Rattle.std.specs.Prelude.{Some};
+ghost use Rattle.machine.specs.Words.{kind_word, input_words, outcome_words};
+
 use crate::{Input, InputKind, Outcome, Row};
 use std::fmt;
 
@@ -40,6 +43,8 @@ impl fmt::Display for Row {
 }
 
 impl fmt::Display for InputKind {
+    ghost output = { λ kind. Some (kind_word kind) };
+
     fn fmt<W: fmt::Write>(&self, f: &mut fmt::Formatter<W>) -> fmt::Result {
         f.write_str(match self {
             InputKind::Reading => "reading",
@@ -49,12 +54,16 @@ impl fmt::Display for InputKind {
 }
 
 impl fmt::Display for Input {
+    ghost output = { λ input. Some (input_words input) };
+
     fn fmt<W: fmt::Write>(&self, f: &mut fmt::Formatter<W>) -> fmt::Result {
         write!(f, "{} {}..{}", self.kind, self.lo, self.hi)
     }
 }
 
 impl fmt::Display for Outcome {
+    ghost output = { λ outcome. Some (outcome_words outcome) };
+
     fn fmt<W: fmt::Write>(&self, f: &mut fmt::Formatter<W>) -> fmt::Result {
         match *self {
             Outcome::At { place } => write!(f, "at {place}"),

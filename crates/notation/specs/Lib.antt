@@ -1,3 +1,4 @@
 pub mod Cells
 pub mod Shipped
 pub mod Numbers
+pub mod Words

@@ -1,6 +1,7 @@
 // The cells of a table: values of a domain, or bytes alone.
-ghost use Rattle.std.specs.Prelude.{◌≡◌};
+ghost use Rattle.std.specs.Prelude.{◌≡◌, Some};
 ghost use Rattle.notation.specs.Shipped.{cells_width, CellAdded, Told};
+ghost use Rattle.notation.specs.Words.{cell_error_words};
 ghost use Rattle.notation.specs.declared.cells.CellError.TheVariants.{NoValue, Memory};
 
 use crate::digits::push_bytes;
@@ -61,6 +62,8 @@ impl From<AllocError> for CellError {
 }
 
 impl fmt::Display for CellError {
+    ghost output = { λ error. Some (cell_error_words error) };
+
     fn fmt<W: fmt::Write>(&self, f: &mut fmt::Formatter<W>) -> fmt::Result {
         f.write_str(match self {
             CellError::NoValue => "no value of the domain, and not the bytes of a cell",

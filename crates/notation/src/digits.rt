@@ -23,11 +23,19 @@ impl fmt::Display for Hexadecimal<'_> {
 pub(crate) fn push_bytes(digits: &str, count: usize, out: &mut Vec<u8>) -> Result<(), CellError>
     ensures { Told (BytesAdded count out.old.items out.new.items) result }
 {
-    let bytes = hex::decode(*out.allocator(), digits)?;
-    if bytes.len() != count {
+    // Of another number of digits nothing is read, and no memory is asked for.
+    if digits.len() / 2 != count {
         return Err(CellError::NoValue);
     }
-    out.extend_from_slice(&bytes)?;
+    // The cells of sheets, of 64 bytes at most, are read with no memory but that of the table.
+    let mut cell = [0u8; 64];
+    match cell.get_mut(..count) {
+        Some(bytes) => {
+            hex::decode_to_slice(digits, bytes)?;
+            out.extend_from_slice(bytes)?;
+        }
+        None => out.extend_from_slice(&hex::decode(*out.allocator(), digits)?)?,
+    }
     Ok(())
 }
 

@@ -1,9 +1,11 @@
--- The signs of the operations and of the relations, as the bytes of a text. Assumes nothing.
+-- The signs of the operations and of the relations, and the words of the traps, as the bytes of a text. Assumes nothing.
 use Rattle.std.specs.Prelude.{◌≡◌, ℕ, List, Result, ◌≢◌, MatchResult, codes}
 use Rattle.number.specs.declared.Op.{Op}
 use Rattle.number.specs.declared.Op.TheVariants.{Add, Sub, Mul, Div, IsLess, IsAtMost, IsEqual, IsUnequal}
 use Rattle.number.specs.declared.Relation.{Relation}
 use Rattle.number.specs.declared.Relation.TheVariants.{Less, AtMost, Equal, Unequal, Greater, AtLeast}
+use Rattle.number.specs.declared.Trap.{Trap}
+use Rattle.number.specs.declared.Trap.TheVariants.{Zero, Range}
 
 abbrev pub op_sign : Op → List ℕ
 op_sign Add = codes "+"
@@ -22,6 +24,10 @@ relation_sign Equal = codes "="
 relation_sign Unequal = codes "!="
 relation_sign Greater = codes ">"
 relation_sign AtLeast = codes ">="
+
+abbrev pub trap_word : Trap → List ℕ
+trap_word Zero = codes "zero"
+trap_word Range = codes "range"
 
 -- what a text is read as: the item whose sign it is, or an error where it is the sign of none
 abbrev pub SignRead : {A E : Type 0} → (A → List ℕ) → List ℕ → Result A E → Type 0

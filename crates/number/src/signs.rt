@@ -1,6 +1,6 @@
 // Operations and relations by their signs, and traps, as people write them.
-ghost use Rattle.std.specs.Prelude.{◌≡◌};
-ghost use Rattle.number.specs.Signs.{op_sign, relation_sign, SignRead};
+ghost use Rattle.std.specs.Prelude.{◌≡◌, Some};
+ghost use Rattle.number.specs.Signs.{op_sign, relation_sign, trap_word, SignRead};
 
 use crate::{Op, Relation, Trap};
 use std::fmt;
@@ -93,6 +93,8 @@ impl FromStr for Relation {
 }
 
 impl fmt::Display for Trap {
+    ghost output = { λ trap. Some (trap_word trap) };
+
     fn fmt<W: fmt::Write>(&self, f: &mut fmt::Formatter<W>) -> fmt::Result {
         f.write_str(match self {
             Trap::Zero => "zero",

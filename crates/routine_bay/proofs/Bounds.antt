@@ -79,14 +79,14 @@ module _ (bs : List ℕ) where
 
   extent-few : (p : PartName) (before : ℕ) → Each Few (part_of bs p before)
   extent-few p before =
-      each-then Few (unless (leb before (offset_of bs p) && leb (offset_of bs p + length_of bs p) (length bs)) (PartExtent p)) _
-      (each-unless Few _ (PartExtent p) (few-parts 3 (omega arith) p)) (λ _ _. tt)
+      each-then Few (unless (leb before (offset_of bs p) && leb (offset_of bs p + length_of bs p) (length bs)) (PartExtent (part_number p))) _
+      (each-unless Few _ (PartExtent (part_number p)) (few-parts 3 (omega arith) p)) (λ _ _. tt)
 
   sizes-few : (k : ℕ) (i r : Region) → Each Few (sizes_right k i r)
   sizes-few k i r =
-      each-then Few (unless (eqb (length i.bytes) (9 * k)) (PartSize Inputs)) _
-      (each-unless Few _ (PartSize Inputs) (few 4 0 0 0 (omega arith) none))
-      (λ _ _. each-unless Few _ (PartSize Rows) (few 4 1 0 0 (omega arith) (here 1 (omega arith))))
+      each-then Few (unless (eqb (length i.bytes) (9 * k)) (PartSize (part_number Inputs))) _
+      (each-unless Few _ (PartSize (part_number Inputs)) (few 4 0 0 0 (omega arith) none))
+      (λ _ _. each-unless Few _ (PartSize (part_number Rows)) (few 4 1 0 0 (omega arith) (here 1 (omega arith))))
 
   parts-few : Each Few (parts_of bs)
   parts-few =

@@ -28,8 +28,16 @@ pub fn same_bytes(a: &[u8], b: &[u8]) -> bool
         (Some(a_last), Some(b_last)) => {
             same_words(a.as_chunks::<8>().0, b.as_chunks::<8>().0) && same_word(a_last, b_last)
         }
-        _ => a == b,
+        _ => same_few(a, b),
     }
+}
+
+// The same of a few bytes, one at a time: `a == b` takes longer on so few.
+fn same_few(a: &[u8], b: &[u8]) -> bool
+    requires { length a.now ≡ length b.now }
+    ensures { Decides result (a.now ≡ b.now) }
+{
+    a.iter().zip(b).all(|(x, y)| x == y)
 }
 
 fn same_words(a: &[[u8; 8]], b: &[[u8; 8]]) -> bool

@@ -26,6 +26,7 @@ use Rattle.sheet.specs.Sheets.{Fits, sheet_of}
 use Rattle.sheet.specs.declared.parts.PartName.{PartName}
 use Rattle.sheet.specs.declared.parts.PartName.TheVariants.{Inputs, Rows, Table}
 use Rattle.sheet.specs.declared.refusals.Refusal.{Refusal}
+use Rattle.sheet.specs.PartNames.{part_number}
 use Rattle.sheet.specs.declared.refusals.Refusal.TheVariants.{SheetSize, HeadByte, PartExtent, PartSize, InputRecord}
 use Rattle.sheet.proofs.Formed.{formed-of}
 
@@ -118,7 +119,7 @@ part-laid : (bs : List ℕ) (i : PartName) (before : ℕ) (p : Region) → Given
 part-laid bs i before p given behind ends held =
     let a : leb before (offset_of bs i) ≡ true = le-leb _ _ (omega (arith, given.0)) in
     let b : leb (offset_of bs i + length_of bs i) (length bs) ≡ true = le-leb _ _ (omega (arith, given.0, given.1)) in
-    then-on (unless (leb before (offset_of bs i) && leb (offset_of bs i + length_of bs i) (length bs)) (PartExtent i)) _ tt _
+    then-on (unless (leb before (offset_of bs i) && leb (offset_of bs i + length_of bs i) (length bs)) (PartExtent (part_number i))) _ tt _
     (passes _ _ (and_from _ _ a b)) (ap Ok (region-is bs p (offset_of bs i) (length_of bs i) given.0 given.1 held))
 
 between-test : (a b c : ℕ) → a ≤ b → b ≤ c → (leb a b && leb b c) ≡ true
@@ -138,7 +139,7 @@ sizes-laid bs s k f =
     let a : eqb (length s.inputs.bytes) (9 * get_or bs 2 0) ≡ true = eq-eqb _ _ (omega (arith, k, f.inputs)) in
     let b : eqb (length s.rows.bytes % 12) 0 ≡ true = eq-eqb _ _ (omega (arith, f.rows)) in
     let c = between-test 12 (length s.rows.bytes) 3072 (omega (arith, f.rows, f.some_place)) (omega (arith, f.rows, f.places)) in
-    then-on (unless (eqb (length s.inputs.bytes) (9 * get_or bs 2 0)) (PartSize Inputs)) _ tt _ (passes _ _ a) (passes _ _ (and_from _ _ b c))
+    then-on (unless (eqb (length s.inputs.bytes) (9 * get_or bs 2 0)) (PartSize (part_number Inputs))) _ tt _ (passes _ _ a) (passes _ _ (and_from _ _ b c))
 
 -- the layout that the head gives
 layout-read : (bs : List ℕ) (s : Parts) → Headed bs s → InOrder bs s → Fits s → parts_of bs ≡ Ok s

@@ -9,3 +9,4 @@ pub mod Rows
 pub mod Sheets
 pub mod Sound
 pub mod Views
+pub mod Words

@@ -53,14 +53,14 @@ length_of bs p = word_at bs (8 + 8 * part_number p)
 -- a part: it begins at or behind the end of what precedes it, and ends inside the sheet
 abbrev pub part_of : List ℕ → PartName → ℕ → Result Region Refusal
 part_of bs i before =
-    and_then (unless (nat_le before (offset_of bs i) && nat_le (offset_of bs i + length_of bs i) (length bs)) (PartExtent i))
+    and_then (unless (nat_le before (offset_of bs i) && nat_le (offset_of bs i + length_of bs i) (length bs)) (PartExtent (part_number i)))
     (λ _. Ok (record { at = offset_of bs i; bytes = take (length_of bs i) (drop (offset_of bs i) bs) }))
 
 -- 9 bytes an input; 12 bytes a row, for 1 to 256 rows
 abbrev pub sizes_right : ℕ → Region → Region → Check Refusal
 sizes_right inputs i r =
-    and_then (unless (length i.bytes == 9 * inputs) (PartSize Inputs))
-    (λ _. unless (length r.bytes % 12 == 0 && (nat_le 12 (length r.bytes) && nat_le (length r.bytes) 3072)) (PartSize Rows))
+    and_then (unless (length i.bytes == 9 * inputs) (PartSize (part_number Inputs)))
+    (λ _. unless (length r.bytes % 12 == 0 && (nat_le 12 (length r.bytes) && nat_le (length r.bytes) 3072)) (PartSize (part_number Rows)))
 
 -- the layout of a sheet, or the first rule of size, head, extents and counts that it breaks
 abbrev pub parts_of : List ℕ → Result Parts Refusal

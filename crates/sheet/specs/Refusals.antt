@@ -1,6 +1,5 @@
 -- Each refusal with its four numbers: rule, place, way, variable. Assumes nothing.
 use Rattle.std.specs.Prelude.{ℕ}
-use Rattle.sheet.specs.PartNames.{part_number}
 use Rattle.sheet.specs.declared.refusals.Refusal.{Refusal}
 use Rattle.sheet.specs.declared.refusals.Refusal.TheVariants.{SheetSize, HeadByte, PartExtent, PartSize, InputRecord, RowByte, NoWidth, TableSize, EntryFlag, CellUnreadable, StartAbsent, StartUncovered, ZeroWarning, RangeWarning, EntryAbsent, NotCovered, NoSetting, SettingOutside, ReadingOutside, NoVariable, NothingHeld, Running, NotRunning}
 use Rattle.sheet.specs.declared.refusals.Report.{Report}
@@ -11,8 +10,8 @@ report number place way variable = record { number = number; place = place; way 
 abbrev pub numbers : Refusal → Report
 numbers SheetSize = report 1 0 0 0
 numbers (HeadByte byte) = report 2 byte 0 0
-numbers (PartExtent part) = report 3 (part_number part) 0 0
-numbers (PartSize part) = report 4 (part_number part) 0 0
+numbers (PartExtent part) = report 3 part 0 0
+numbers (PartSize part) = report 4 part 0 0
 numbers (InputRecord input) = report 5 input 0 0
 numbers (RowByte place byte) = report 6 place byte 0
 numbers NoWidth = report 7 0 0 0

@@ -1,6 +1,7 @@
 // The layout of a sheet: its parts, before its inputs and rows are read.
 ghost use Rattle.std.specs.Prelude.{◌≡◌, ◌<◌, ◌≤◌, MatchOption};
 ghost use Rattle.scan.specs.Scan.{chunk};
+ghost use Rattle.sheet.specs.Bytes.{AllBytes};
 ghost use Rattle.sheet.specs.Inputs.{input_at, inputs_right};
 ghost use Rattle.sheet.specs.Parts.{parts_of, sizes_right};
 ghost use Rattle.sheet.specs.Regions.{region};
@@ -22,13 +23,13 @@ fn check_sizes(inputs: usize, input_part: Part<'_>, row_part: Part<'_>) -> Resul
 {
     if input_part.bytes.len() != 9 * inputs {
         return Err(Refusal::PartSize {
-            part: PartName::Inputs,
+            part: PartName::Inputs.into(),
         });
     }
     let rows = row_part.bytes.len();
     if rows % 12 != 0 || rows < 12 || rows > 3072 {
         return Err(Refusal::PartSize {
-            part: PartName::Rows,
+            part: PartName::Rows.into(),
         });
     }
     Ok(())
@@ -72,16 +73,10 @@ impl<'a> Layout<'a> {
         requires { place < self.now.places }
         ensures { result ≡ row_at (laid self.now) place }
     {
-        let Layout {
-            variables,
-            input_count: inputs,
-            places,
-            ..
-        } = *self;
         let counts = Counts {
-            variables,
-            inputs,
-            places,
+            variables: self.variables,
+            inputs: self.input_count,
+            places: self.places,
         };
         let (records, _) = self.rows.bytes.as_chunks::<12>();
         read_row(counts, place, &records[place])
@@ -90,7 +85,8 @@ impl<'a> Layout<'a> {
     /// What the bytes of the row at this place say, whether or not they are right; `row` tells that.
     pub fn stated_row(&self, place: usize) -> Row
         requires { place < self.now.places }
-        ensures { result ≡ row_in (chunk 12 place (laid self.now).rows.bytes) }
+        ensures value { result ≡ row_in (chunk 12 place (laid self.now).rows.bytes) }
+        ensures bytes { AllBytes (chunk 12 place (laid self.now).rows.bytes) }
     {
         let (records, _) = self.rows.bytes.as_chunks::<12>();
         decode_row(&records[place])
@@ -109,9 +105,9 @@ impl<'a> Layout<'a> {
     pub(crate) fn check_inputs(&self) -> Result<(), Refusal>
         ensures { result ≡ inputs_right (laid self.now) }
     {
-        let (records, _) = self.inputs.bytes.as_chunks::<9>();
-        for (number, record) in records.iter().enumerate() {
-            read_input(number, record)?;
+        // By number, which `input` takes.
+        for number in 0..self.input_count {
+            self.input(number)?;
         }
         Ok(())
     }
@@ -120,14 +116,9 @@ impl<'a> Layout<'a> {
     pub(crate) fn check_rows(&self) -> Result<(), Refusal>
         ensures { result ≡ rows_right (laid self.now) }
     {
-        let counts = Counts {
-            variables: self.variables,
-            inputs: self.input_count,
-            places: self.places,
-        };
-        let (records, _) = self.rows.bytes.as_chunks::<12>();
-        for (place, record) in records.iter().enumerate() {
-            read_row(counts, place, record)?;
+        // By number, which `row` takes.
+        for place in 0..self.places {
+            self.row(place)?;
         }
         Ok(())
     }

@@ -82,7 +82,7 @@ pub(crate) fn lay_out(bytes: &[u8], part: PartName, before: usize) -> Result<Par
     let at = word(bytes, pair);
     let len = word(bytes, pair + 4);
     if at < before || at + len > bytes.len() {
-        return Err(Refusal::PartExtent { part });
+        return Err(Refusal::PartExtent { part: part.into() });
     }
     let (_, rest) = bytes.split_at(at);
     let (inside, _) = rest.split_at(len);

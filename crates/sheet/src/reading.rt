@@ -9,7 +9,6 @@ ghost use Rattle.sheet.specs.Views.{laid, seen, seen_in};
 
 use crate::inputs::read_input;
 use crate::refusals::Refusal;
-use crate::rows::decode_row;
 use crate::views::{Layout, Sheet};
 use machine::{Input, Row};
 
@@ -60,8 +59,7 @@ impl<'a> Sheet<'a> {
         ensures stated { result ≡ row_in (chunk 12 place (seen self.now).rows.bytes) }
         ensures names { Names self.now.variables self.now.input_count self.now.places result }
     {
-        let (records, _) = self.rows.bytes.as_chunks::<12>();
-        decode_row(&records[place])
+        self.layout().stated_row(place)
     }
 
     /// How many bytes a cell has, where the table is as long as a flag and a cell for each variable

@@ -2,8 +2,6 @@
 ghost use Rattle.std.specs.Prelude.{◌≡◌};
 ghost use Rattle.sheet.specs.Refusals.{numbers};
 
-use crate::parts::PartName;
-
 /// A refusal: which rule failed, and where.
 #[derive(Clone, Copy, PartialEq, Eq, Debug)]
 pub enum Refusal {
@@ -13,13 +11,13 @@ pub enum Refusal {
     HeadByte {
         byte: usize,
     },
-    /// 3: a part begins before the end of what precedes it, or ends past the sheet.
+    /// 3: a part, by the number of its `PartName`, begins before the end of what precedes it, or ends past the sheet.
     PartExtent {
-        part: PartName,
+        part: usize,
     },
     /// 4: the inputs part or the rows part is not as long as its records.
     PartSize {
-        part: PartName,
+        part: usize,
     },
     /// 5: an input has an unknown kind, or its lo exceeds its hi.
     InputRecord {
@@ -101,8 +99,8 @@ impl Refusal {
         let (number, place, way, variable) = match self {
             Refusal::SheetSize => (1, 0, 0, 0),
             Refusal::HeadByte { byte } => (2, byte, 0, 0),
-            Refusal::PartExtent { part } => (3, usize::from(part), 0, 0),
-            Refusal::PartSize { part } => (4, usize::from(part), 0, 0),
+            Refusal::PartExtent { part } => (3, part, 0, 0),
+            Refusal::PartSize { part } => (4, part, 0, 0),
             Refusal::InputRecord { input } => (5, input, 0, 0),
             Refusal::RowByte { place, byte } => (6, place, byte, 0),
             Refusal::NoWidth => (7, 0, 0, 0),

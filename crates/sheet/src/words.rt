@@ -1,4 +1,7 @@
 // Refusals, inputs and rows in words.
+ghost use Rattle.std.specs.Prelude.{Some};
+ghost use Rattle.sheet.specs.Words.{part_word, report_words};
+
 use crate::parts::PartName;
 use crate::refusals::{Refusal, Report};
 use crate::views::Sheet;
@@ -16,12 +19,12 @@ impl fmt::Display for Refusal {
             Refusal::PartExtent { part } => write!(
                 f,
                 "the {} part begins before the end of what precedes it, or ends past the sheet",
-                part
+                part_named(part)
             ),
             Refusal::PartSize { part } => write!(
                 f,
                 "the {} part is not as long as its records: 9 bytes an input, 12 bytes a row, 1 to 256 rows",
-                part
+                part_named(part)
             ),
             Refusal::InputRecord { input } => {
                 write!(
@@ -51,7 +54,10 @@ impl fmt::Display for Refusal {
                     "the cell of v{variable} in the entry at {place} holds no value"
                 )
             }
-            Refusal::StartAbsent => write!(f, "the entry at 0 is absent"),
+            // Variable 16 is none: told by the same four numbers, in the same words.
+            Refusal::StartAbsent | Refusal::StartUncovered { variable: 16 } => {
+                write!(f, "the entry at 0 is absent")
+            }
             Refusal::StartUncovered { variable } => {
                 write!(
                     f,
@@ -87,6 +93,15 @@ impl fmt::Display for Refusal {
     }
 }
 
+// The part of a refusal, which names it by its number.
+fn part_named(part: usize) -> PartName {
+    match part {
+        0 => PartName::Inputs,
+        1 => PartName::Rows,
+        _ => PartName::Table,
+    }
+}
+
 // What a byte of the head has to be.
 fn head_rule(byte: usize) -> &'static str {
     match byte {
@@ -111,6 +126,8 @@ fn byte_rule(byte: usize) -> &'static str {
 }
 
 impl fmt::Display for PartName {
+    ghost output = { λ part. Some (part_word part) };
+
     fn fmt<W: fmt::Write>(&self, f: &mut fmt::Formatter<W>) -> fmt::Result {
         f.write_str(match self {
             PartName::Inputs => "inputs",
@@ -150,6 +167,8 @@ impl fmt::Display for RowLines<'_> {
 
 // The four numbers, as programs print them.
 impl fmt::Display for Report {
+    ghost output = { λ report. Some (report_words report) };
+
     fn fmt<W: fmt::Write>(&self, f: &mut fmt::Formatter<W>) -> fmt::Result {
         write!(
             f,

@@ -1,10 +1,10 @@
 -- A span is its two ends, and what making one gives. Assumes nothing.
 use Rattle.std.specs.Prelude.{◌≡◌, Bool, true, false, ◌&&◌, ℤ, ◌≤ℤ◌, ◌<ℤ◌, Some, None, Option, int_le, refl}
-use Rattle.std.proofs.Common.{sym, ap, subst, ◌∙◌, ⊎_elim, w32, SFits}
+use Rattle.std.proofs.Common.{sym, ap, subst, ◌∙◌}
 use Rattle.std.proofs.Math.Dec.{T_prop}
-use Rattle.std.proofs.lemmas.Bool.{and_parts, and_from, both_ways, and_left, and_right, cases_Bool}
+use Rattle.std.proofs.lemmas.Bool.{and_parts, and_from, both_ways, and_left, and_right}
 use Rattle.number.specs.Exact.{least, greatest}
-use Rattle.number.proofs.Order.{test-from-le, le-from-test, no-le-from-lt, le_trans, width-of-int32}
+use Rattle.number.proofs.Order.{test-from-le, le-from-test, no-le-from-lt}
 use Rattle.span.specs.declared.Span.{Span}
 use Rattle.span.specs.Ends.{are_ends, spanned_by, spanned}
 
@@ -72,13 +72,11 @@ spanned-none lo hi n = go (spanned-made lo hi)
         absurd (both_ways (are_ends lo hi) n (subst (λ (l : ℤ). are_ends l hi ≡ true) p (subst (λ (h : ℤ). are_ends t.lo h ≡ true) q (own-ends t))))
     go (none _) = refl
 
--- none, where an end is no integer of 32 bits
-pub none-unfit : (lo hi : ℤ) → (SFits w32 lo → SFits w32 hi → ⊥) → None ≡ spanned lo hi
-none-unfit lo hi unfit = spanned-none lo hi (⊎_elim
-    (λ e. let p = ends-parts e in
-    absurd (unfit (width-of-int32 (record { low = p.0; high = le_trans p.1 p.2 })) (width-of-int32 (record { low = le_trans p.0 p.1; high = p.2 }))))
-    (λ e. e)
-    (cases_Bool (are_ends lo hi)))
+pub none-low : (lo hi : ℤ) → lo <ℤ least → None ≡ spanned lo hi
+none-low lo hi h = spanned-none lo hi (and_left (int_le least lo) (int_le lo hi && int_le hi greatest) (no-le-from-lt h))
 
 pub none-order : (lo hi : ℤ) → hi <ℤ lo → None ≡ spanned lo hi
 none-order lo hi h = spanned-none lo hi (and_right (int_le least lo) (int_le lo hi && int_le hi greatest) (and_left (int_le lo hi) (int_le hi greatest) (no-le-from-lt h)))
+
+pub none-high : (lo hi : ℤ) → greatest <ℤ hi → None ≡ spanned lo hi
+none-high lo hi h = spanned-none lo hi (and_right (int_le least lo) (int_le lo hi && int_le hi greatest) (and_right (int_le lo hi) (int_le hi greatest) (no-le-from-lt h)))

@@ -2,9 +2,7 @@
 use Rattle.std.specs.Prelude.{◌≡◌, ℕ, ◌<◌, ◌≤◌, Bool, true, false, ◌&&◌, ℤ, pos, ◌≤ℤ◌, ◌<ℤ◌, Some, None, ◌≢◌, int_le, int_lt, nat_le, refl}
 use Rattle.std.proofs.Math.Bool.{Bool-set}
 use Rattle.std.proofs.Common.{⊎_elim, sym, ap, ap₂, subst, ◌∙◌, arith}
-use Rattle.std.specs.Cmp.{int_ranks}
 use Rattle.std.specs.Option.{unwrap_or}
-use Rattle.std.specs.Ordering.{int_cmp, is_le, is_lt}
 use Rattle.std.proofs.lemmas.Int.{ints}
 use Rattle.std.proofs.lemmas.Bool.{and_parts, and_from, and_right, both_ways, leb-true, le-leb, eq-eqb, ne_eqb, cases_eq, cond-true, cond-false}
 use Rattle.number.specs.Exact.{Int32}
@@ -81,9 +79,5 @@ some-made m r s e h = sym (made-fits m s e) ∙ ap (made m) h
 pub whole_is : (e : fitting 1 (pos 0) ≡ true) → record { modulus = 1; remainder = pos 0; fits = e } ≡ anything
 whole_is e = λ i. record { modulus = 1; remainder = pos 0; fits = Bool-set _ _ e refl i }
 
--- what is in range by one test is so by the other
-in-range : (r t : ℤ) → (is_le (int_cmp (pos 0) r) && is_lt (int_cmp r t)) ≡ false → (int_le (pos 0) r && int_lt r t) ≡ false
-in-range r t e = grind (arith, ints, int_ranks)
-
-pub breaks : (m : ℕ) (r s t : ℤ) → s ≡ r → t ≡ pos m → (m ≢ 0) → (is_le (int_cmp (pos 0) s) && is_lt (int_cmp s t)) ≡ false → fitting m r ≡ false
-breaks m r s t h i z e = and_right _ _ (cond-false _ _ _ (ne_eqb m 0 z) ∙ sym (ap₂ (λ x y. int_le (pos 0) x && int_lt x y) h i) ∙ in-range s t e)
+pub breaks : (m : ℕ) (r s t : ℤ) → s ≡ r → t ≡ pos m → (m ≢ 0) → (int_le (pos 0) s && int_lt s t) ≡ false → fitting m r ≡ false
+breaks m r s t h i z e = and_right _ _ (cond-false _ _ _ (ne_eqb m 0 z) ∙ sym (ap₂ (λ x y. int_le (pos 0) x && int_lt x y) h i) ∙ e)

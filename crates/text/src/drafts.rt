@@ -62,7 +62,7 @@ pub struct Draft {
 }
 
 impl Draft {
-    ghost use Rattle.text.specs.Drafts.{drafted, IsSheet, nothing, NoneCounted, KeepsVariables, Grows, AddsNothing, CountsVariables, IsToldLine, IsNumbered};
+    ghost use Rattle.text.specs.Drafts.{drafted, IsSheet, nothing, NoneCounted, OneInput, OneRow, SameEntries, SameInputs, SameRows, KeepsVariables, Grows, AddsNothing, CountsVariables, IsToldLine, IsNumbered};
 
     /// A draft of which no line is known.
     pub fn new(heap: Global) -> Draft
@@ -161,30 +161,84 @@ impl Draft {
         self.lines = self.lines.saturating_add(1);
         let words = words_of(self.heap, text)?;
         match words.as_slice() {
-            [] => {}
-            ["variables:", count @ ..] => {
-                self.variables = self.variable_count(count)?;
-                self.stage = Stage::Inputs;
-            }
-            ["input", input @ ..] => {
-                let input = self.next_input(input)?;
-                self.inputs.push(input)?;
-            }
-            ["table:", cells @ ..] => self.stage = Stage::Table(self.table_cells(cells)?),
-            ["entry", entry @ ..] => {
-                let (cells, entry) = self.next_entry(entry)?;
-                push_entry(&mut self.table, cells, self.variables, entry)?;
-                self.entries += 1;
-            }
-            [place, row @ ..] => {
-                let row = self.next_row(place, row)?;
-                self.rows.push(NumberedRow {
-                    row,
-                    line: self.lines,
-                })?;
-                self.stage = Stage::Rows;
-            }
+            [] => Ok(()),
+            ["variables:", count @ ..] => self.take_variables(count),
+            ["input", input @ ..] => self.take_input(input),
+            ["table:", cells @ ..] => self.take_table(cells),
+            ["entry", entry @ ..] => self.take_entry(entry),
+            [place, row @ ..] => self.take_row(place, row),
         }
+    }
+
+    // The line that counts the variables.
+    fn take_variables(&mut self, words: &[&str]) -> Result<(), Reason>
+        ensures taken { OnOk result ((begun self.old.stage ≡ false) × SameInputs self.old self.new × SameRows self.old self.new × SameEntries self.old self.new) }
+        ensures keeps { KeepsVariables self.old self.new }
+        ensures variables { CountsVariables self.old self.new }
+        ensures refused { OnErr result (AddsNothing self.old self.new) }
+        ensures lines { self.new.lines ≡ self.old.lines }
+    {
+        self.variables = self.variable_count(words)?;
+        self.stage = Stage::Inputs;
+        Ok(())
+    }
+
+    // An input line.
+    fn take_input(&mut self, words: &[&str]) -> Result<(), Reason>
+        ensures taken { OnOk result ((begun self.old.stage ≡ true) × OneInput self.old self.new) }
+        ensures keeps { KeepsVariables self.old self.new }
+        ensures rows { SameRows self.old self.new }
+        ensures entries { SameEntries self.old self.new }
+        ensures refused { OnErr result (AddsNothing self.old self.new) }
+        ensures lines { self.new.lines ≡ self.old.lines }
+    {
+        let input = self.next_input(words)?;
+        self.inputs.push(input)?;
+        Ok(())
+    }
+
+    // A row line.
+    fn take_row(&mut self, place: &str, words: &[&str]) -> Result<(), Reason>
+        requires { 1 ≤ self.old.lines }
+        ensures taken { OnOk result ((begun self.old.stage ≡ true) × OneRow self.old self.new) }
+        ensures keeps { KeepsVariables self.old self.new }
+        ensures inputs { SameInputs self.old self.new }
+        ensures entries { SameEntries self.old self.new }
+        ensures refused { OnErr result (AddsNothing self.old self.new) }
+        ensures lines { self.new.lines ≡ self.old.lines }
+    {
+        let row = self.next_row(place, words)?;
+        self.rows.push(NumberedRow {
+            row,
+            line: self.lines,
+        })?;
+        self.stage = Stage::Rows;
+        Ok(())
+    }
+
+    // The line that begins the table.
+    fn take_table(&mut self, words: &[&str]) -> Result<(), Reason>
+        ensures keeps { KeepsVariables self.old self.new }
+        ensures begun { OnOk result (begun self.old.stage ≡ true) }
+        ensures nothing { AddsNothing self.old self.new }
+        ensures lines { self.new.lines ≡ self.old.lines }
+    {
+        self.stage = Stage::Table(self.table_cells(words)?);
+        Ok(())
+    }
+
+    // An entry line.
+    fn take_entry(&mut self, words: &[&str]) -> Result<(), Reason>
+        ensures taken { OnOk result ((begun self.old.stage ≡ true) × (self.new.entries ≡ self.old.entries + 1)) }
+        ensures keeps { KeepsVariables self.old self.new }
+        ensures inputs { SameInputs self.old self.new }
+        ensures rows { SameRows self.old self.new }
+        ensures refused { OnErr result (AddsNothing self.old self.new) }
+        ensures lines { self.new.lines ≡ self.old.lines }
+    {
+        let (cells, entry) = self.next_entry(words)?;
+        push_entry(&mut self.table, cells, self.variables, entry)?;
+        self.entries += 1;
         Ok(())
     }
 
